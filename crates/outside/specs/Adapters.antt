@@ -1,0 +1,10 @@
+-- The counts of the system's files and output.
+use Rattle.std.specs.Prelude.{ℕ}
+use Rattle.outside.specs.declared.disk.DiskFiles.{DiskFiles}
+use Rattle.outside.specs.declared.disk.StdSink.{StdSink}
+
+abbrev pub disk_faults : {R Handle Access : Type 0} → DiskFiles R Handle Access → ℕ
+disk_faults files = files.faults
+
+abbrev pub output_faults : {R : Type 0} → StdSink R → ℕ
+output_faults sink = sink.faults
