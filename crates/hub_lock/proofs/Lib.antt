@@ -1,0 +1,10 @@
+pub mod Sums
+pub mod Entries
+pub mod Stages
+pub mod Table
+pub mod Turns
+pub mod Commits
+pub mod Parts
+pub mod Ends
+pub mod SeatStates
+pub mod Calls

@@ -1,0 +1,218 @@
+// The turn, its seats, and the value that a seat takes and gives.
+ghost use Rattle.std.specs.Prelude.{◌≡◌, ℕ, ◌+◌, ◌<◌, ◌≤◌, [], ◌∷◌, ◌++◌, length, true, false, Some, IfOk};
+ghost use Rattle.atomic_table.specs.Seated.{TableId};
+ghost use Rattle.hub_lock.specs.Places.{times, between};
+ghost use Rattle.hub_lock.specs.Stages.{has_turn};
+ghost use Rattle.hub_lock.specs.Steps.{staged, view, own_after, IsOutside, Took, MayCommit, IsSound};
+ghost use Rattle.hub_lock.specs.Seats.{SeatState, seat_state, first_seat, one_part_less, split_from, own_entries, Joins, Enters, MayLeave, Leaves};
+ghost use Rattle.hub_lock.specs.declared.view.Stage.TheVariants.{Outside, Waits, Inside};
+
+use crate::kept::Kept;
+use crate::rule::{Both, Check, Commit, Draw, Look, Order, Part, PassOn};
+use crate::view::View;
+use atomic_table::{Refused, Table};
+use std::alloc::{AllocError, Global};
+use std::marker::Model;
+use std::snapshot::Snapshot;
+use std::sync::Wait;
+use std::thread::yield_now;
+
+// The words of the table: the length of the journal, the next ticket, and the ticket that is served.
+const JOURNAL: usize = 0;
+
+const NEXT: usize = 1;
+
+const SERVING: usize = 2;
+
+// The one slot: it holds the value, or nothing while a seat is inside.
+const VALUE: usize = 0;
+
+type Pass<T> = atomic_table::Seat<Option<T>, View<<T as Kept>::Opening, <T as Kept>::Entry>>;
+
+/// A ticket turn round one value. Contracts see which turn it is.
+#[derive(Drop)]
+pub struct Turn<T: Kept> {
+    table: Table<Option<T>, View<T::Opening, T::Entry>, Snapshot<T>, Order<T>, Global>,
+}
+
+impl<T: Kept> Model for Turn<T> {
+    ghost Value = { TableId };
+
+    ghost view = { λ t. t.table.shared.table_id };
+
+    ghost invariant = { λ t. (t.table.shared.table_id.words ≡ 3) × (t.table.shared.table_id.slots ≡ 1) };
+}
+
+/// A right to take turns. It has no bytes.
+///
+/// Contracts see its turn, the value's opening, what it has seen of the journal, which places of the journal are its own, its parts, and whether it is inside.
+#[derive(Drop)]
+pub struct Seat<T: Kept> {
+    pass: Pass<T>,
+}
+
+impl<T: Kept> Model for Seat<T> {
+    ghost Value = { SeatState T.Opening T.Entry };
+
+    ghost view = { λ s. seat_state s.pass.table_id s.pass.me };
+
+    ghost invariant = { λ s. IsSound s.pass.me };
+}
+
+/// The value, while a seat has the turn.
+#[derive(Drop)]
+pub struct Held<T> {
+    pub value: T,
+}
+
+impl<T: Kept> Turn<T> {
+    /// A turn round the value, and its first seat, which has all 2^32 parts. The only error is want of memory.
+    pub fn start(alloc: Global, value: T) -> Result<(Turn<T>, Seat<T>), AllocError>
+        requires { T.journal value ≡ [] }
+        ensures { IfOk result (λ t. t.1 ≡ first_seat t.0 (T.opening value)) }
+    {
+        let key = Snapshot::of(&value);
+        let mut slots = Vec::with_capacity(alloc, 1)?;
+        slots.push_reserved(Some(value));
+        match Table::new(alloc, &[0, 0, 0], slots, &key) {
+            Ok((table, pass)) => Ok((Turn { table }, Seat { pass })),
+            Err(Refused { slots: _ }) => Err(AllocError),
+        }
+    }
+
+    /// Moves one part to a new seat, which has seen as much and has no entry of its own.
+    pub fn split(&self, seat: &mut Seat<T>) -> Seat<T>
+        requires turn { seat.old.turn ≡ self.now }
+        requires parts { 2 ≤ seat.old.parts }
+        ensures kept { seat.new ≡ one_part_less seat.old }
+        ensures given { result ≡ split_from seat.old }
+    {
+        let pass = self.table.shared.split_seat::<Part>(&mut seat.pass);
+        Seat { pass }
+    }
+
+    /// Takes in the other seat, with what it has seen, its own places and its parts.
+    pub fn join(&self, seat: &mut Seat<T>, other: Seat<T>)
+        requires turn { (seat.old.turn ≡ self.now) × (other.turn ≡ self.now) }
+        requires outside { (seat.old.inside ≡ false) × (other.inside ≡ false) }
+        ensures { Joins seat.old other seat.new }
+    {
+        let Seat { pass } = other;
+        self.table.shared.join_seat::<Both>(&mut seat.pass, pass);
+        self.table.shared.load::<Check>(&mut seat.pass, JOURNAL);
+    }
+
+    /// Waits for the turn, and takes the value. Its journal is what the seat has then seen.
+    ///
+    /// Once 2^64 - 1 tickets were drawn it waits for good.
+    pub fn enter<R: Wait>(&self, rt: &R, seat: &mut Seat<T>) -> Held<T>
+        requires turn { seat.old.turn ≡ self.now }
+        requires outside { seat.old.inside ≡ false }
+        ensures { Enters T.opening T.journal T.rule seat.old result.value seat.new }
+    {
+        let ticket = self.draw(rt, &mut seat.pass);
+        self.look(rt, &mut seat.pass, ticket);
+        let value = self
+            .table
+            .shared
+            .exchange(&mut seat.pass, VALUE, None)
+            .unwrap();
+        Held { value }
+    }
+
+    /// Gives the value back, and the turn. `added` says that its journal has one entry more than when it was taken.
+    pub fn leave(&self, seat: &mut Seat<T>, held: Held<T>, added: bool)
+        requires turn { seat.old.turn ≡ self.now }
+        requires inside { seat.old.inside ≡ true }
+        requires opening { seat.old.opening ≡ Some (T.opening held.value) }
+        requires may { MayLeave T.journal T.rule seat.old held.value added }
+        ensures { Leaves T.journal seat.old held.value added seat.new }
+    {
+        let Held { value } = held;
+        let what = Snapshot::of(&value);
+        drop(
+            self.table
+                .shared
+                .exchange(&mut seat.pass, VALUE, Some(value)),
+        );
+        self.commit(&mut seat.pass, &what, added);
+        self.table
+            .shared
+            .fetch_add::<PassOn>(&mut seat.pass, SERVING, 1);
+        self.table.shared.wake_all(SERVING);
+    }
+
+    /// Ends the turn, with the seat that has all parts and so is the only one left.
+    /// The value's journal is what that seat has seen, and each of its places is the seat's own, once.
+    pub fn close(self, seat: Seat<T>) -> T
+        requires turn { seat.turn ≡ self }
+        requires outside { seat.inside ≡ false }
+        requires all { seat.parts ≡ 4294967296 }
+        ensures opening { seat.opening ≡ Some (T.opening result) }
+        ensures journal { T.journal result ≡ seat.seen }
+        ensures own { (p : ℕ) → times p seat.own ≡ between p 0 (length seat.seen) }
+        ensures entries { own_entries seat ≡ seat.seen }
+    {
+        let Turn { table } = self;
+        let Seat { pass } = seat;
+        let mut closed = table.close_with(pass);
+        let value = closed.take(VALUE).unwrap();
+        closed.free();
+        value
+    }
+
+    // Draws a ticket. Where the last one was drawn it waits for good.
+    fn draw<R: Wait>(&self, rt: &R, pass: &mut Pass<T>) -> u64
+        requires own { pass.old.table_id ≡ self.now }
+        requires outside { IsOutside pass.old.me }
+        ensures own { pass.new.table_id ≡ pass.old.table_id }
+        ensures drew { pass.new.me ≡ (staged pass.old.me.0 (Waits result), pass.old.me.1) }
+    {
+        for _ in rt.forever() {
+            let next = self.table.shared.peek(NEXT);
+            if next < u64::MAX {
+                let found = self
+                    .table
+                    .shared
+                    .compare_exchange::<Draw>(pass, NEXT, next, next + 1);
+                if found == next {
+                    return next;
+                }
+            }
+            yield_now();
+        }
+        unreachable!()
+    }
+
+    // Waits until the ticket is served. The seat has then seen the whole journal, and slot 0 is out with it.
+    fn look<R: Wait>(&self, rt: &R, pass: &mut Pass<T>, ticket: u64)
+        requires own { pass.old.table_id ≡ self.now }
+        requires waits { pass.old.me.0.stage ≡ Waits ticket }
+        ensures own { pass.new.table_id ≡ pass.old.table_id }
+        ensures took { Took T.opening T.journal T.rule pass.old.me ticket pass.new.me }
+    {
+        for _ in rt.forever() {
+            let serving = self.table.shared.load::<Look<T>>(pass, SERVING);
+            if serving == ticket {
+                return;
+            }
+            self.table
+                .shared
+                .park(rt, SERVING, (serving % 4294967296) as u32);
+        }
+        unreachable!()
+    }
+
+    // Where an entry was added, the journal is longer by it, and it becomes the seat's own.
+    fn commit(&self, pass: &mut Pass<T>, value: &Snapshot<T>, added: bool)
+        requires own { pass.old.table_id ≡ self.now }
+        requires inside { ((t : ℕ) × (pass.old.me.0.stage ≡ Inside t)) × (pass.old.me.1 ≡ (0, Some value.now.value) ∷ []) }
+        requires may { MayCommit T.journal T.rule pass.old.me.0 value.now.value added }
+        ensures own { pass.new.table_id ≡ pass.old.table_id }
+        ensures done { (has_turn pass.new.me.0.stage ≡ 1) × (pass.new.me ≡ (view pass.old.me.0.opening (T.journal value.now.value) (own_after pass.old.me.0 added) pass.old.me.0.parts pass.new.me.0.stage pass.old.me.0.told, pass.old.me.1)) }
+    {
+        if added {
+            self.table.shared.fetch_add::<Commit<T>>(pass, JOURNAL, 1);
+        }
+    }
+}
