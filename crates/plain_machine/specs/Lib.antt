@@ -1,0 +1,14 @@
+pub mod Registers
+pub mod Region
+pub mod Memory
+pub mod Alu
+pub mod Step
+pub mod Io
+pub mod Calls
+pub mod Program
+pub mod Machine
+pub mod Run
+pub mod Cut
+pub mod Sight
+pub mod Rows
+pub mod Laws

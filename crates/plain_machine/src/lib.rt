@@ -1,0 +1,23 @@
+//! The plain machine, as definitions (`specs/`) that know no blocks built and no cache, and the small types that they
+//! are written over.
+//!
+//! It stands on `rv_decode` and `cc_base`. Every layer above cites its definitions: memories, one step, the system
+//! calls, runs, where blocks begin in a run, and the rows of a report.
+#![tactic(auto)]
+
+mod access;
+mod cpu;
+mod effect;
+mod ends;
+mod io;
+pub mod laws;
+mod operation;
+#[cfg(test)]
+mod tests;
+
+pub use access::{Access, Flags, MemErr, Size};
+pub use cpu::{Cpu, Done, Regs};
+pub use effect::{Effect, Extension};
+pub use ends::{End, Kind};
+pub use io::{Asked, Heap, Mapping};
+pub use operation::{Comparison, Op};
