@@ -1,0 +1,6 @@
+use Rattle.std.proofs.Common.{◌+◌, ◌∙◌, refl}
+use Rattle.elf_map.proofs.NumberLemmas.{little_number-part}
+use Rattle.elf_map.proofs.header.u32_at.Goals as goal
+
+pub returns : goal.returns
+returns c = c.read_u32.ensures ∙ little_number-part 4 c.args.at (c.args.at + 4) c.args.bytes.now refl c.requires

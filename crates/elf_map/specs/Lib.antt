@@ -1,0 +1,4 @@
+pub mod Number
+pub mod Program
+pub mod Elf
+pub mod Results
