@@ -1,0 +1,4 @@
+pub mod KeptCode
+pub mod Steps
+pub mod Reach
+pub mod WordsDone
