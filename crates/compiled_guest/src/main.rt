@@ -1,0 +1,28 @@
+//! A run of a guest that gcc compiled, of some forty thousand bytes in two segments: `letters.elf` of the working folder
+//! is run to its exit, and its text is written to standard output.
+//!
+//! It stands on `host` and `outside`.
+#![tactic(auto)]
+
+use host::host;
+use outside::{DiskFiles, StdSink};
+use std::alloc::{AllocError, Global};
+use std::process::ExitCode;
+
+fn main(rt: HostRuntime) -> ExitCode {
+    let alloc = rt.alloc();
+    let Ok(words) = words(alloc) else {
+        return ExitCode::from(6);
+    };
+    let mut files = DiskFiles::new(rt, alloc);
+    let mut out = StdSink::new(rt);
+    let ended = host(alloc, &words, &mut files, &mut out);
+    ExitCode::from(ended.status)
+}
+
+fn words(alloc: Global) -> Result<Vec<String>, AllocError> {
+    let mut words = Vec::new(alloc);
+    words.push(String::from_str(alloc, "run")?)?;
+    words.push(String::from_str(alloc, "letters.elf")?)?;
+    Ok(words)
+}

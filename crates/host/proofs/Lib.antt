@@ -1,0 +1,4 @@
+pub mod HexText
+pub mod Written
+pub mod Taken
+pub mod Telling

@@ -1,0 +1,122 @@
+// Refusals, and a sink that fails.
+use crate::files::{code, elf, words};
+use host::host;
+use outside::{FuseFiles, FuseSink, MemFiles, MemSink};
+use std::alloc::Global;
+use std::process::Abort;
+use std::test::Fail;
+
+// ADDI x17, x0, 93 and ECALL.
+const EXITS: [u32; 2] = [0x05d0_0893, 0x0000_0073];
+
+// These words are refused with this status and this line, where p.elf has this content.
+fn refuses(
+    rt: &impl Abort,
+    alloc: Global,
+    content: &[u8],
+    texts: &[&str],
+    status: u8,
+    line: &[u8],
+) -> Result<(), Fail> {
+    let mut files = MemFiles::new(alloc);
+    files.put("p.elf", content)?;
+    let mut out = MemSink::new(alloc, 100)?;
+    let words = words(alloc, texts)?;
+    let ended = host(alloc, &words, &mut files, &mut out);
+    assert_eq!(rt; ended.status, status);
+    assert_eq!(rt; out.bytes(), line);
+    assert_eq!(rt; ended.guests.len(), 0);
+    Ok(())
+}
+
+#[test]
+fn words_that_name_no_file_are_refused(rt: HostRuntime) -> Result<(), Fail> {
+    let alloc = rt.alloc();
+    let line = b"error words\n";
+    refuses(&rt, alloc, b"", &["run"], 2, line)?;
+    refuses(&rt, alloc, b"", &[], 2, line)?;
+    refuses(&rt, alloc, b"", &["gen", "7"], 2, line)
+}
+
+#[test]
+fn a_long_file_and_a_short_one_are_refused(rt: HostRuntime) -> Result<(), Fail> {
+    let alloc = rt.alloc();
+    let mut long = Vec::new(alloc);
+    long.resize(4_194_305, 0)?;
+    let words = ["run", "p.elf"];
+    refuses(&rt, alloc, &long, &words, 4, b"error file p.elf long\n")?;
+    refuses(&rt, alloc, b"", &words, 5, b"error elf p.elf short\n")
+}
+
+// The file of two instructions with one byte changed.
+fn damaged(alloc: Global, at: usize, byte: u8) -> Result<Vec<u8>, Fail> {
+    let mut file = elf(alloc, 5, &[0x93, 0x08, 0xd0, 0x05, 0x73, 0, 0, 0])?;
+    if let Some(place) = file.get_mut(at) {
+        *place = byte;
+    }
+    Ok(file)
+}
+
+#[test]
+fn a_file_that_breaks_a_rule_is_refused_by_its_name(rt: HostRuntime) -> Result<(), Fail> {
+    let alloc = rt.alloc();
+    let words = ["run", "p.elf"];
+    let file = damaged(alloc, 36, 1)?;
+    refuses(
+        &rt,
+        alloc,
+        &file,
+        &words,
+        5,
+        b"error elf p.elf compressed\n",
+    )?;
+    let file = damaged(alloc, 56, 0x55)?;
+    refuses(&rt, alloc, &file, &words, 5, b"error elf p.elf segment 0\n")?;
+    let file = damaged(alloc, 52, 3)?;
+    refuses(&rt, alloc, &file, &words, 5, b"error elf p.elf interp\n")
+}
+
+#[test]
+fn an_absent_file_is_unread(rt: HostRuntime) -> Result<(), Fail> {
+    let alloc = rt.alloc();
+    let mut out = MemSink::new(alloc, 100)?;
+    let words = words(alloc, &["run", "p.elf"])?;
+    let ended = host(alloc, &words, &mut MemFiles::new(alloc), &mut out);
+    assert_eq!(rt; ended.status, 4);
+    assert_eq!(rt; out.bytes(), b"error file p.elf unread\n".as_slice());
+    Ok(())
+}
+
+#[test]
+fn a_read_that_fails_is_told(rt: HostRuntime) -> Result<(), Fail> {
+    let alloc = rt.alloc();
+    let mut files = MemFiles::new(alloc);
+    let segment = code(alloc, &EXITS)?;
+    if segment.len() >= 4096 {
+        return Err(Fail::from("too many words"));
+    }
+    files.put("p.elf", &elf(alloc, 5, &segment)?)?;
+    let mut files = FuseFiles::new(files, vec![in alloc; 1]?);
+    let mut out = MemSink::new(alloc, 100)?;
+    let words = words(alloc, &["run", "p.elf"])?;
+    let ended = host(alloc, &words, &mut files, &mut out);
+    assert_eq!(rt; ended.status, 4);
+    let ended = host(alloc, &words, &mut files, &mut out);
+    assert_eq!(rt; ended.status, 0);
+    Ok(())
+}
+
+#[test]
+fn a_sink_that_fails_keeps_a_front(rt: HostRuntime) -> Result<(), Fail> {
+    let alloc = rt.alloc();
+    let mut files = MemFiles::new(alloc);
+    let file = damaged(alloc, 0, 0x7f)?;
+    files.put("p.elf", &file)?;
+    let mut out = FuseSink::new(alloc, 100, vec![in alloc; 3]?, 5)?;
+    let words = words(alloc, &["run", "p.elf"])?;
+    let ended = host(alloc, &words, &mut files, &mut out);
+    assert_eq!(rt; ended.status, 7);
+    assert_eq!(rt; out.bytes(), b"guest g1 e".as_slice());
+    assert_eq!(rt; ended.guests.len(), 1);
+    Ok(())
+}
