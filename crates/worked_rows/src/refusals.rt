@@ -61,19 +61,29 @@ fn damaged(alloc: Global, at: usize, byte: u8) -> Result<Vec<u8>, Fail> {
 fn a_file_that_breaks_a_rule_is_refused_by_its_name(rt: HostRuntime) -> Result<(), Fail> {
     let alloc = rt.alloc();
     let words = ["run", "p.elf"];
-    let file = damaged(alloc, 36, 1)?;
-    refuses(
-        &rt,
-        alloc,
-        &file,
-        &words,
-        5,
-        b"error elf p.elf compressed\n",
-    )?;
-    let file = damaged(alloc, 56, 0x55)?;
-    refuses(&rt, alloc, &file, &words, 5, b"error elf p.elf segment 0\n")?;
-    let file = damaged(alloc, 52, 3)?;
-    refuses(&rt, alloc, &file, &words, 5, b"error elf p.elf interp\n")
+    for (at, byte, line) in [
+        (0, 0, "error elf p.elf magic\n"),
+        (4, 2, "error elf p.elf class\n"),
+        (5, 2, "error elf p.elf order\n"),
+        (6, 0, "error elf p.elf version\n"),
+        (16, 1, "error elf p.elf filekind\n"),
+        (18, 0xf2, "error elf p.elf machine\n"),
+        (28, 0x3d, "error elf p.elf table\n"),
+        (36, 1, "error elf p.elf compressed\n"),
+        (40, 0x33, "error elf p.elf headersize\n"),
+        (44, 0x41, "error elf p.elf toomanyheaders\n"),
+        (52, 3, "error elf p.elf interp\n"),
+        (52, 2, "error elf p.elf dynamic\n"),
+        (52, 7, "error elf p.elf tls\n"),
+        (56, 0x55, "error elf p.elf segment 0\n"),
+        (68, 9, "error elf p.elf segment 0\n"),
+    ] {
+        let file = damaged(alloc, at, byte)?;
+        refuses(&rt, alloc, &file, &words, 5, line.as_bytes())?;
+    }
+    let mut cut = damaged(alloc, 0, 0x7f)?;
+    cut.truncate(51);
+    refuses(&rt, alloc, &cut, &words, 5, b"error elf p.elf short\n")
 }
 
 #[test]

@@ -115,7 +115,7 @@ fn a_file_without_segments_is_unplaced(rt: HostRuntime) -> Result<(), Fail> {
 }
 
 #[test]
-fn a_module_is_unmapped_and_mapped_no_more(rt: HostRuntime) -> Result<(), Fail> {
+fn a_mapped_module_is_not_mapped_again(rt: HostRuntime) -> Result<(), Fail> {
     // ADDI x10, x0, 0; ADDI x17, x0, 1000; ECALL: the module is mapped, so -17 is the status
     let words = [
         0x0000_0513,
