@@ -1,0 +1,11 @@
+pub mod Calls
+pub mod Chains
+pub mod Cutting
+pub mod Emptied
+pub mod Keeping
+pub mod Laws
+pub mod Links
+pub mod Putting
+pub mod Reading
+mod Memory
+mod Written
