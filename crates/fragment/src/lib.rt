@@ -1,7 +1,7 @@
 //! A basic block as it was built: its address, its words and where it may go on.
 //!
 //! It stands on `plain_machine` and `rv_decode`. The layers above use: a fragment is its parts, and `IsBuilt` says what
-//! the block at an address of a code is.
+//! the block at an address of a code is, of which there is one.
 #![tactic(auto)]
 
 ghost use Rattle.std.specs.Prelude.{◌≡◌, IfOk};
@@ -9,6 +9,7 @@ ghost use Rattle.std.specs.Prelude.{◌≡◌, IfOk};
 use std::alloc::{AllocError, Global};
 use std::marker::Model;
 
+pub mod laws;
 #[cfg(test)]
 mod tests;
 
