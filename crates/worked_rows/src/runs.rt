@@ -127,3 +127,59 @@ fn a_mapped_module_is_not_mapped_again(rt: HostRuntime) -> Result<(), Fail> {
     let text = b"guest g1 exit 239\noutput 0\n\nreport blocks 2\n00010000 1\n0001000C 1\n";
     prints_words(&rt, rt.alloc(), 5, &words, 0, text)
 }
+
+#[test]
+fn a_number_of_no_module_is_not_mapped(rt: HostRuntime) -> Result<(), Fail> {
+    // Module 1 is to be mapped.
+    let words = [
+        0x0010_0513,
+        0x0000_0593,
+        0x3e80_0893,
+        0x0000_0073,
+        0x05d0_0893,
+        0x0000_0073,
+    ];
+    let text = b"guest g1 exit 234\noutput 0\n\nreport blocks 2\n00010000 1\n00010010 1\n";
+    prints_words(&rt, rt.alloc(), 5, &words, 0, text)
+}
+
+#[test]
+fn an_unmapped_module_is_run_no_more(rt: HostRuntime) -> Result<(), Fail> {
+    // Module 0 goes, and the words of the guest with it.
+    let words = [
+        0x0000_0513,
+        0x0000_0593,
+        0x3e90_0893,
+        0x0000_0073,
+        0x05d0_0893,
+        0x0000_0073,
+    ];
+    let text = b"guest g1 fault fetch 00010010\noutput 0\n\nreport blocks 1\n00010000 1\n";
+    prints_words(&rt, rt.alloc(), 5, &words, 1, text)
+}
+
+#[test]
+fn a_module_is_replaced_by_its_file_alone(rt: HostRuntime) -> Result<(), Fail> {
+    let alloc = rt.alloc();
+    // Module 0 is to be file 0, and then file 1, which is none.
+    let words = [
+        0x0000_0513,
+        0x0000_0593,
+        0x3ea0_0893,
+        0x0000_0073,
+        0x05d0_0893,
+        0x0000_0073,
+    ];
+    let text = b"guest g1 exit 0\noutput 0\n\nreport blocks 2\n00010000 1\n00010010 1\n";
+    prints_words(&rt, alloc, 5, &words, 0, text)?;
+    let words = [
+        0x0000_0513,
+        0x0010_0593,
+        0x3ea0_0893,
+        0x0000_0073,
+        0x05d0_0893,
+        0x0000_0073,
+    ];
+    let text = b"guest g1 exit 234\noutput 0\n\nreport blocks 2\n00010000 1\n00010010 1\n";
+    prints_words(&rt, alloc, 5, &words, 0, text)
+}
