@@ -143,7 +143,13 @@ impl Mem {
         ensures made { MatchResult result (λ _. self.new ≡ resized self.old start len) (λ _. self.new ≡ self.old) }
     {
         match place_from(&self.regions, start) {
-            None => self.make(start, len),
+            None => {
+                if len == 0 {
+                    Ok(())
+                } else {
+                    self.make(start, len)
+                }
+            }
             Some(place) => {
                 if len == 0 {
                     self.remove(start)
@@ -155,14 +161,11 @@ impl Mem {
     }
 
     fn make(&mut self, start: u32, len: u32) -> Result<(), MemErr>
-        requires { region_from self.old start ≡ None }
+        requires absent { region_from self.old start ≡ None }
+        requires some { 0 < len }
         ensures refused { Refuses (refusal (others self.old start) start len) result }
         ensures made { MatchResult result (λ _. self.new ≡ resized self.old start len) (λ _. self.new ≡ self.old) }
     {
-        if len == 0 {
-            let _ = &self.total;
-            return Ok(());
-        }
         let flags = Flags {
             read: true,
             write: true,
