@@ -113,10 +113,7 @@ fn prepare<F: Files>(alloc: Global, words: &[String], files: &mut F) -> Result<P
         return Err(Cause::Words);
     };
     let file = read_file(alloc, name, files)?;
-    let elf = match read_elf(alloc, name, &file) {
-        Ok(elf) => elf,
-        Err(cause) => return Err(cause),
-    };
+    let elf = read_elf(alloc, name, &file)?;
     let guest = Guest {
         isa: Isa::I,
         stack: 65_536,
