@@ -12,24 +12,53 @@ module _ {A : Type 0} where
     total-append [] m = omega arith
     total-append (x ∷ xs) m = omega (arith, total-append xs m)
 
+    -- a list without its item v at the place j: the sums differ by that item, also where another stands there, and every other item is still in it
+    record IsWithout (l : List A) (j : ℕ) (v : A) (rest : List A) : Type 0 where
+      sum : total g l ≡ g v + total g rest
+      other : (w : A) → total g (set l j w) ≡ g w + total g rest
+      found : (k : ℕ) (u : A) → k ≢ j → get_elem? l k ≡ some u → (i : ℕ) × (get_elem? rest i ≡ some u)
+
+    found_later : (x : A) (xs rest : List A) (j k : ℕ) (v u : A) → IsWithout xs j v rest → k ≢ suc j → get_elem? (x ∷ xs) k ≡ some u
+        → (i : ℕ) × (get_elem? (x ∷ rest) i ≡ some u)
+    found_later x xs rest j zero v u without apart at = (0, at)
+    found_later x xs rest j (suc k) v u without apart at = let i = without.found k u (λ same. apart (ap suc same)) at in (suc i.0, i.1)
+
+    found_behind : (x : A) (xs : List A) (k : ℕ) (u : A) → k ≢ 0 → get_elem? (x ∷ xs) k ≡ some u → (i : ℕ) × (get_elem? xs i ≡ some u)
+    found_behind x xs zero u apart at = absurd (apart refl)
+    found_behind x xs (suc k) u apart at = (k, at)
+
+    without : (l : List A) (j : ℕ) (v : A) → get_elem? l j ≡ some v → (rest : List A) × IsWithout l j v rest
+    without [] j v at = absurd (some-ne-none v (sym at))
+    without (x ∷ xs) zero v at = (
+      xs,
+      record {
+        sum = ap (λ y. g y + total g xs) (some-injective x v at);
+        other = λ w. refl;
+        found = found_behind x xs;
+      },
+    )
+    without (x ∷ xs) (suc j) v at = let inner = without xs j v at in (
+      x ∷ inner.0,
+      record {
+        sum = omega (arith, inner.1.sum);
+        other = λ w. omega (arith, inner.1.other w);
+        found = λ k u. found_later x xs inner.0 j k v u inner.1;
+      },
+    )
+
     -- v becomes w
     pub total-set : (l : List A) (j : ℕ) (v w : A) → get_elem? l j ≡ some v → total g (set l j w) + g v ≡ total g l + g w
-    total-set [] j v w e = absurd (some-ne-none v (sym e))
-    total-set (x ∷ xs) zero v w e = omega (arith, ap g (some-injective x v e))
-    total-set (x ∷ xs) (suc j) v w e = omega (arith, total-set xs j v w e)
+    total-set l j v w at = let rest = (without l j v at).1 in omega (arith, rest.sum, rest.other w)
 
     -- one term, and two at different places, are at most the sum
     pub term_le : (l : List A) (j : ℕ) (v : A) → get_elem? l j ≡ some v → g v ≤ total g l
-    term_le [] j v e = absurd (some-ne-none v (sym e))
-    term_le (x ∷ xs) zero v e = omega (arith, ap g (some-injective x v e))
-    term_le (x ∷ xs) (suc j) v e = omega (arith, term_le xs j v e)
+    term_le l j v at = omega (arith, (without l j v at).1.sum)
 
     pub terms_le : (l : List A) (j k : ℕ) (v u : A) → k ≢ j → get_elem? l j ≡ some v → get_elem? l k ≡ some u → g v + g u ≤ total g l
-    terms_le [] j k v u n e d = absurd (some-ne-none v (sym e))
-    terms_le (x ∷ xs) zero zero v u n e d = absurd (n refl)
-    terms_le (x ∷ xs) zero (suc k) v u n e d = omega (arith, ap g (some-injective x v e), term_le xs k u d)
-    terms_le (x ∷ xs) (suc j) zero v u n e d = omega (arith, ap g (some-injective x u d), term_le xs j v e)
-    terms_le (x ∷ xs) (suc j) (suc k) v u n e d = omega (arith, terms_le xs j k v u (λ h. n (ap suc h)) e d)
+    terms_le l j k v u apart at there =
+        let rest = without l j v at in
+        let u_at = rest.1.found k u apart there in
+        omega (arith, rest.1.sum, term_le rest.0 u_at.0 u u_at.1)
 
     pub total_zero : (l : List A) → ((j : ℕ) (v : A) → get_elem? l j ≡ some v → g v ≡ 0) → total g l ≡ 0
     total_zero [] h = refl
