@@ -4,6 +4,9 @@
 //! It stands on `host` and `outside`.
 #![tactic(auto)]
 
+ghost use Rattle.std.specs.Prelude.{◌≡◌, Some, codes, IfOk};
+ghost use Rattle.host.specs.Answer.{file_named};
+
 use host::host;
 use outside::{DiskFiles, StdSink};
 use std::alloc::{AllocError, Global};
@@ -20,7 +23,10 @@ fn main(rt: HostRuntime) -> ExitCode {
     ExitCode::from(ended.status)
 }
 
-fn words(alloc: Global) -> Result<Vec<String>, AllocError> {
+// The words that have the host run the guest.
+fn words(alloc: Global) -> Result<Vec<String>, AllocError>
+    ensures { IfOk result (λ words. file_named words.items ≡ Some (codes "letters.elf")) }
+{
     let mut words = Vec::new(alloc);
     words.push(String::from_str(alloc, "run")?)?;
     words.push(String::from_str(alloc, "letters.elf")?)?;
