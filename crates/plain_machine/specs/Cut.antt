@@ -1,6 +1,5 @@
 -- Where blocks begin in a run. It looks at the run and at the most instructions of a block alone.
-use Rattle.std.specs.Prelude.{ℕ, ◌-◌, ◌==◌, ◌||◌, not, Bool, true, false, if◌then◌else◌, List, [], ◌∷◌, Option, Some, None, Result, Ok, Err}
-use Rattle.std.specs.List.{flat_map}
+use Rattle.std.specs.Prelude.{ℕ, ◌-◌, ◌==◌, ◌||◌, not, Bool, true, false, if◌then◌else◌, List, [], ◌∷◌, ◌++◌, Option, Some, None, Result, Ok, Err}
 use Rattle.rv_decode.specs.declared.ins.Ins.{Ins}
 use Rattle.rv_decode.specs.declared.ins.Ins.TheVariants as ins
 use Rattle.rv_decode.specs.Table.{instruction}
@@ -9,7 +8,9 @@ use Rattle.plain_machine.specs.declared.cpu.Done.TheVariants as done
 use Rattle.plain_machine.specs.Region.{Area, holds}
 use Rattle.plain_machine.specs.Memory.{fetched, region_at}
 use Rattle.plain_machine.specs.Step.{Outcome, step}
+use Rattle.plain_machine.specs.declared.ends.End.{End}
 use Rattle.plain_machine.specs.Machine.{State}
+use Rattle.plain_machine.specs.Run.{Run}
 
 -- another instruction never follows it in its block: a jump, a branch, a call, or what ends a guest
 abbrev pub ends_block : Ins → Bool
@@ -64,14 +65,28 @@ abbrev pub cut : ℕ → ℕ → Option Area → List State → List (State × B
 cut max room place [] = []
 cut max room place (s ∷ states) = (s, begins room place s) ∷ cut max (room_after max room (begins room place s) s) (place_of s) states
 
--- what the tool that counts blocks sees before an instruction: the block's address
-abbrev pub seen : State × Bool → List ℕ
-seen (s, begun) = if begun then s.cpu.pc ∷ [] else []
+-- ---- a run with its cut
 
--- all blocks that begin in a run whose open block may take `room` more
-abbrev pub blocks_in : ℕ → ℕ → Option Area → List State → List ℕ
-blocks_in max room place states = flat_map seen (cut max room place states)
+pub record Marked : Type 0 where
+  -- the states whose instruction is done, each with whether it begins a block
+  pub marks : List (State × Bool)
+  pub end : Option End
+  pub output : List ℕ
+  -- the map answers that were not taken
+  pub left : List ℕ
 
--- the addresses of the blocks of a whole run, in order
-abbrev pub blocks : ℕ → List State → List ℕ
-blocks max states = blocks_in max 0 None states
+-- where the open block, in this region, may take `room` more
+abbrev pub marked_in : ℕ → ℕ → Option Area → Run → Marked
+marked_in max room place run = record { marks = cut max room place run.states; end = run.end; output = run.output; left = run.left }
+
+-- from the begin of a block
+abbrev pub marked : ℕ → Run → Marked
+marked max run = marked_in max 0 None run
+
+-- these states come first
+abbrev pub with_marks : List (State × Bool) → Marked → Marked
+with_marks marks v = record v { marks = marks ++ v.marks }
+
+-- it is over
+abbrev pub over : End → List ℕ → List ℕ → Marked
+over end output answers = record { marks = []; end = Some end; output = output; left = answers }

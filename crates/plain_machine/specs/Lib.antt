@@ -9,6 +9,5 @@ pub mod Program
 pub mod Machine
 pub mod Run
 pub mod Cut
-pub mod Sight
-pub mod Rows
-pub mod Laws
+pub mod Own
+pub mod Events

@@ -10,7 +10,6 @@ mod cpu;
 mod effect;
 mod ends;
 mod io;
-pub mod laws;
 mod operation;
 #[cfg(test)]
 mod tests;
