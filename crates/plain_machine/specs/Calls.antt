@@ -1,5 +1,5 @@
 -- The system calls of the plain machine.
-use Rattle.std.specs.Prelude.{ℕ, ◌-◌, ◌%◌, ◌^◌, ◌==◌, ◌||◌, Bool, nat_lt, nat_le, ◌+◌, min, if◌then◌else◌, List, [], ◌∷◌, ◌++◌, length, take, drop, Option, Some, None, Result, Ok, Err}
+use Rattle.std.specs.Prelude.{ℕ, ◌-◌, ◌%◌, ◌^◌, ◌==◌, ◌||◌, Bool, nat_lt, nat_le, ◌+◌, min, if◌then◌else◌, List, ◌++◌, length, take, drop, Option, Some, None, Result, Ok, Err}
 use Rattle.std.specs.List.{list_any}
 use Rattle.plain_machine.specs.declared.access.Access.{Access}
 use Rattle.plain_machine.specs.declared.access.MemErr.{MemErr}
