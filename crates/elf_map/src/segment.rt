@@ -2,7 +2,7 @@ ghost use Rattle.std.specs.Prelude.{◌≡◌, ◌+◌, ◌-◌, ◌<◌, ◌≤
 ghost use Rattle.plain_machine.specs.Region.{region_of};
 ghost use Rattle.plain_machine.specs.Memory.{refusal, others};
 ghost use Rattle.plain_machine.specs.Program.{runs_at, area_of};
-ghost use Rattle.guest_mem.specs.Results.{Refuses};
+ghost use Rattle.guest_mem.specs.Results.{RefusedFor};
 ghost use Rattle.elf_map.specs.Program.{executes, text_of};
 ghost use Rattle.elf_map.specs.Elf.{is_mapped, is_sound, segment_of};
 
@@ -102,7 +102,7 @@ impl FileSegment {
 
     /// Adds it to a memory.
     pub fn add_to(&self, start: u32, mem: &mut Mem) -> Result<(), MemErr>
-        ensures refused { Refuses (refusal mem.old start self.now.size) result }
+        ensures refused { RefusedFor (refusal mem.old start self.now.size) result }
         ensures added { MatchResult result (λ _. mem.new ≡ mem.old ++ region_of start self.now.flags self.now.content self.now.size ∷ []) (λ _. mem.new ≡ mem.old) }
         ensures undone { OnOk result (others mem.new start ≡ mem.old) }
     {

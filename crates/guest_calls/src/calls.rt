@@ -1,5 +1,5 @@
 ghost use Rattle.std.specs.Prelude.{◌≡◌, ◌<◌, ◌≤◌, ◌^◌, ◌-◌, IfOk, None, MatchResult};
-ghost use Rattle.guest_mem.specs.Results.{Refuses};
+ghost use Rattle.guest_mem.specs.Results.{RefusedFor};
 ghost use Rattle.plain_machine.specs.Memory.{Memory};
 ghost use Rattle.plain_machine.specs.Step.{reg};
 ghost use Rattle.plain_machine.specs.Calls.{behind, brk_call, called, counted, if_left, map_call, replace_call, unmap_call, given, heap_refusal, with_heap, read_call, write_call};
@@ -136,7 +136,7 @@ fn brk(cpu: &mut Cpu, mem: &mut Mem, io: &mut GuestIo) -> Result<Asked, AllocErr
 
 fn move_end(mem: &mut Mem, heap: Heap, end: u32) -> Result<(), MemErr>
     requires { heap.start ≤ end }
-    ensures refused { Refuses (heap_refusal mem.old heap end) result }
+    ensures refused { RefusedFor (heap_refusal mem.old heap end) result }
     ensures moved { MatchResult result (λ _. mem.new ≡ with_heap mem.old heap end) (λ _. mem.new ≡ mem.old) }
 {
     let len = end - heap.start;

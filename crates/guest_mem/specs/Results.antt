@@ -10,12 +10,12 @@ use Rattle.guest_mem.specs.declared.access.CopyErr.{CopyErr}
 use Rattle.guest_mem.specs.declared.access.CopyErr.TheVariants as copy
 
 -- refused for this reason; else only memory may run out
-abbrev pub Refuses : {A : Type 0} → Option MemErr → Result A MemErr → Type 0
-Refuses (Some e) result = result ≡ Err e
-Refuses None result = IsOkUnless result errors.Memory
+abbrev pub RefusedFor : {A : Type 0} → Option MemErr → Result A MemErr → Type 0
+RefusedFor (Some e) result = result ≡ Err e
+RefusedFor None result = IsOkUnless result errors.Memory
 
 -- what a function that may change a memory answered is this result; an error leaves the memory as it was
-abbrev pub Becomes : Memory → Result Memory Access → Result (Unit {0}) Access → Memory → Type 0
+abbrev pub Becomes : {A : Type 0} → Memory → Result Memory Access → Result A Access → Memory → Type 0
 Becomes old made (Ok _) new = made ≡ Ok new
 Becomes old made (Err e) new = (made ≡ Err e) × (new ≡ old)
 

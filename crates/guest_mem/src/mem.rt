@@ -1,8 +1,8 @@
-ghost use Rattle.std.specs.Prelude.{OnOk, ◌≡◌, ◌+◌, ◌≤◌, ◌<◌, ◌*◌, ◌^◌, IfOk, [], ◌∷◌, ◌++◌, length, MatchResult, MatchOption, position, option_copied, IfSome, IsTrue, find, not, ◌&&◌, Some, None};
+ghost use Rattle.std.specs.Prelude.{OnOk, ◌≡◌, ◌+◌, ◌≤◌, ◌<◌, ◌*◌, ◌^◌, IfOk, [], ◌∷◌, ◌++◌, length, MatchResult, MatchOption, position, option_copied, IfSome, IsTrue, find, not, ◌&&◌, Some, None, Ok, Err};
 ghost use Rattle.std.specs.List.{list_any};
 ghost use Rattle.plain_machine.specs.Region.{holds, meets, region_of};
 ghost use Rattle.plain_machine.specs.Memory.{IsMemory, AreInRange, byte_count, refusal, size_of, loaded, fetched, region_at, stored, written, touches_code, code_at, has_code, read, region_from, starts_at, others, resized};
-ghost use Rattle.guest_mem.specs.Results.{Refuses, Becomes, Shows, Copies};
+ghost use Rattle.guest_mem.specs.Results.{RefusedFor, Becomes, Shows, Copies};
 
 use crate::access::CopyErr;
 use crate::region::Region;
@@ -17,6 +17,8 @@ pub struct Mem {
     alloc: Global,
     regions: Vec<Region>,
     total: usize,
+    // The place of the region of the last store, which is tried first; any number will do.
+    near: usize,
 }
 
 impl Model for Mem {
@@ -38,6 +40,7 @@ impl Mem {
             alloc,
             regions: Vec::new(alloc),
             total: 0,
+            near: 0,
         }
     }
 
@@ -45,7 +48,7 @@ impl Mem {
     pub fn add(&mut self, start: u32, flags: Flags, first: &[u8], len: u32) -> Result<(), MemErr>
         requires fits { length first.now ≤ len }
         requires some { 0 < len }
-        ensures refused { Refuses (refusal self.old start len) result }
+        ensures refused { RefusedFor (refusal self.old start len) result }
         ensures added { MatchResult result (λ _. self.new ≡ self.old ++ region_of start flags first.now len ∷ []) (λ _. self.new ≡ self.old) }
         // To take the region away gives the memory back.
         ensures undone { OnOk result (others self.new start ≡ self.old) }
@@ -70,7 +73,9 @@ impl Mem {
         ensures value { result ≡ loaded self.now addr size }
         ensures below { IfOk result (λ n. n < 2 ^ (8 * size_of size)) }
     {
-        let region = region_of_bytes(&self.regions, addr, size.bytes()).ok_or(Access::NotMapped)?;
+        let region = region_near(&self.regions, self.near, addr, size.bytes()).ok_or(
+            Access::NotMapped,
+        )?;
         if !region.flags.read {
             return Err(Access::NotAllowed);
         }
@@ -79,7 +84,8 @@ impl Mem {
 
     /// The word at `addr`, to be executed.
     pub fn fetch(&self, addr: u32) -> Result<u32, Access>
-        ensures { result ≡ fetched self.now addr }
+        ensures value { result ≡ fetched self.now addr }
+        ensures memory { IsMemory self.now }
     {
         let region = region_of_bytes(&self.regions, addr, 4).ok_or(Access::NotMapped)?;
         if !region.flags.execute {
@@ -88,13 +94,18 @@ impl Mem {
         Ok(region.number_at(addr, Size::Word))
     }
 
-    /// Writes the lowest bytes of `value` from `addr` on.
-    pub fn store(&mut self, addr: u32, size: Size, value: u32) -> Result<(), Access>
+    /// Writes the lowest bytes of `value` from `addr` on. It answers whether they may be executed.
+    pub fn store(&mut self, addr: u32, size: Size, value: u32) -> Result<bool, Access>
         ensures stored { Becomes self.old (stored self.old addr size value) result self.new }
+        ensures code { IfOk result (λ met. met ≡ touches_code self.new addr (size_of size)) }
         ensures within { OnOk result (addr + size_of size ≤ 4294967295) }
     {
         let bytes = value.to_le_bytes();
-        put(&mut self.regions, addr, &bytes[..size.bytes() as usize])
+        match size {
+            Size::Byte => put(&mut self.regions, &mut self.near, addr, &bytes[..1]),
+            Size::Half => put(&mut self.regions, &mut self.near, addr, &bytes[..2]),
+            Size::Word => put(&mut self.regions, &mut self.near, addr, &bytes[..4]),
+        }
     }
 
     /// Writes the bytes from `addr` on.
@@ -103,7 +114,24 @@ impl Mem {
         ensures written { Becomes self.old (written self.old addr bytes.now) result self.new }
         ensures within { OnOk result (addr + length bytes.now ≤ 4294967295) }
     {
-        put(&mut self.regions, addr, bytes)
+        match put(&mut self.regions, &mut self.near, addr, bytes) {
+            Ok(_) => Ok(()),
+            Err(e) => Err(e),
+        }
+    }
+
+    /// The `len` bytes from `addr` on.
+    pub fn bytes(&self, addr: u32, len: u32) -> Result<&[u8], Access>
+        requires { 0 < len }
+        ensures { MatchResult result (λ bytes. read self.now addr len ≡ Ok bytes.now) (λ e. read self.now addr len ≡ Err e) }
+    {
+        let Some(region) = region_of_bytes(&self.regions, addr, len) else {
+            return Err(Access::NotMapped);
+        };
+        if !region.flags.read {
+            return Err(Access::NotAllowed);
+        }
+        Ok(region.bytes_at(addr, len))
     }
 
     /// Appends the `len` bytes from `addr` on.
@@ -111,15 +139,12 @@ impl Mem {
         requires { 0 < len }
         ensures { Copies (read self.now addr len) result out.old.items out.new.items }
     {
-        let Some(region) = region_of_bytes(&self.regions, addr, len) else {
-            return Err(CopyErr::Access(Access::NotMapped));
-        };
-        if !region.flags.read {
-            return Err(CopyErr::Access(Access::NotAllowed));
-        }
-        match out.extend_from_slice(region.bytes_at(addr, len)) {
-            Ok(()) => Ok(()),
-            Err(_) => Err(CopyErr::Memory),
+        match self.bytes(addr, len) {
+            Err(e) => Err(CopyErr::Access(e)),
+            Ok(bytes) => match out.extend_from_slice(bytes) {
+                Ok(()) => Ok(()),
+                Err(_) => Err(CopyErr::Memory),
+            },
         }
     }
 
@@ -139,7 +164,7 @@ impl Mem {
     /// Makes the region at `start` this long, with zeros for new bytes. Where there is none, one to
     /// be read and written is added; at length 0 it is taken away.
     pub fn resize(&mut self, start: u32, len: u32) -> Result<(), MemErr>
-        ensures refused { Refuses (refusal (others self.old start) start len) result }
+        ensures refused { RefusedFor (refusal (others self.old start) start len) result }
         ensures made { MatchResult result (λ _. self.new ≡ resized self.old start len) (λ _. self.new ≡ self.old) }
     {
         match place_from(&self.regions, start) {
@@ -163,7 +188,7 @@ impl Mem {
     fn make(&mut self, start: u32, len: u32) -> Result<(), MemErr>
         requires absent { region_from self.old start ≡ None }
         requires some { 0 < len }
-        ensures refused { Refuses (refusal (others self.old start) start len) result }
+        ensures refused { RefusedFor (refusal (others self.old start) start len) result }
         ensures made { MatchResult result (λ _. self.new ≡ resized self.old start len) (λ _. self.new ≡ self.old) }
     {
         let flags = Flags {
@@ -177,7 +202,7 @@ impl Mem {
     fn lengthen(&mut self, place: usize, start: u32, len: u32) -> Result<(), MemErr>
         requires at { position (starts_at start) self.old ≡ Some place }
         requires some { 0 < len }
-        ensures refused { Refuses (refusal (others self.old start) start len) result }
+        ensures refused { RefusedFor (refusal (others self.old start) start len) result }
         ensures made { MatchResult result (λ _. self.new ≡ resized self.old start len) (λ _. self.new ≡ self.old) }
     {
         if len > u32::MAX - start {
@@ -194,6 +219,13 @@ impl Mem {
         region.resize(len)?;
         self.total = rest + len as usize;
         Ok(())
+    }
+
+    /// What every memory keeps. It does nothing.
+    pub fn laws(&self)
+        ensures { IsMemory self.now }
+    {
+        let _ = &self.total;
     }
 
     /// Some of the bytes may be executed.
@@ -231,27 +263,61 @@ fn region_of_bytes(regions: &[Region], addr: u32, len: u32) -> Option<&Region>
     regions.iter().find(|r| r.holds(addr, len))
 }
 
+// The same, where this region is tried first.
+#[inline(always)]
+fn region_near(regions: &[Region], near: usize, addr: u32, len: u32) -> Option<&Region>
+    requires memory { IsMemory regions.now }
+    requires some { 0 < len }
+    ensures found { option_copied result ≡ region_at regions.now addr len }
+    ensures holds { IfSome result (λ r. IsTrue (holds addr len r.now)) }
+{
+    if near < regions.len() {
+        let region = &regions[near];
+        if region.holds(addr, len) {
+            return Some(region);
+        }
+    }
+    region_of_bytes(regions, addr, len)
+}
+
+// The place of the region that has the bytes, where this one is tried first.
+#[inline(always)]
+fn place_near(regions: &[Region], near: usize, addr: u32, len: u32) -> Option<usize>
+    requires { IsMemory regions.now }
+    ensures { result ≡ position (holds addr len) regions.now }
+{
+    if len > 0 && near < regions.len() && regions[near].holds(addr, len) {
+        return Some(near);
+    }
+    place_of_bytes(regions, addr, len)
+}
+
 fn place_of_bytes(regions: &[Region], addr: u32, len: u32) -> Option<usize>
     ensures { result ≡ position (holds addr len) regions.now }
 {
     regions.iter().position(|r| r.holds(addr, len))
 }
 
-fn put(regions: &mut Vec<Region>, addr: u32, bytes: &[u8]) -> Result<(), Access>
+// Writes the bytes, and answers whether they may be executed.
+#[inline(always)]
+fn put(regions: &mut Vec<Region>, near: &mut usize, addr: u32, bytes: &[u8]) -> Result<bool, Access>
     requires short { length bytes.now ≤ 4294967295 }
-    requires in_range { AreInRange regions.old.items }
+    requires memory { IsMemory regions.old.items }
     ensures becomes { Becomes regions.old.items (written regions.old.items addr bytes.now) result regions.new.items }
+    ensures code { 0 < length bytes.now → IfOk result (λ met. met ≡ touches_code regions.new.items addr (length bytes.now)) }
     ensures within { OnOk result (addr + length bytes.now ≤ 4294967295) }
 {
-    let Some(place) = place_of_bytes(regions, addr, bytes.len() as u32) else {
+    let Some(place) = place_near(regions, *near, addr, bytes.len() as u32) else {
         return Err(Access::NotMapped);
     };
     let region = &mut regions[place];
     if !region.flags.write {
         return Err(Access::NotAllowed);
     }
+    *near = place;
+    let executed = region.flags.execute;
     region.put(addr, bytes);
-    Ok(())
+    Ok(executed)
 }
 
 fn touches(regions: &[Region], addr: u32, len: u32) -> bool

@@ -48,8 +48,8 @@ fn bytes_are_read_low_first_in_one_region(rt: HostRuntime) -> Result<(), Fail> {
 #[test]
 fn bytes_are_written_where_it_is_allowed(rt: HostRuntime) -> Result<(), Fail> {
     let mut mem = code_and_data(rt.alloc())?;
-    assert_eq!(rt; mem.store(0x2_0004, Size::Word, 0x0403_0201), Ok(()));
-    assert_eq!(rt; mem.store(0x2_0006, Size::Byte, 0x1ff), Ok(()));
+    assert_eq!(rt; mem.store(0x2_0004, Size::Word, 0x0403_0201), Ok(false));
+    assert_eq!(rt; mem.store(0x2_0006, Size::Byte, 0x1ff), Ok(false));
     assert_eq!(rt; mem.load(0x2_0004, Size::Word), Ok(0x04ff_0201));
     assert_eq!(rt; mem.store(0x2_000d, Size::Word, 1), Err(Access::NotMapped));
     assert_eq!(rt; mem.store(0x1_0000, Size::Half, 0), Err(Access::NotAllowed));
@@ -67,6 +67,8 @@ fn bytes_are_written_where_it_is_allowed(rt: HostRuntime) -> Result<(), Fail> {
         execute: true,
     };
     mem.add(0x3_0000, closed, &[1], 4)?;
+    assert_eq!(rt; mem.store(0x3_0001, Size::Half, 0x0202), Ok(true));
+    assert_eq!(rt; mem.fetch(0x3_0000), Ok(0x0002_0201));
     assert_eq!(rt; mem.load(0x3_0000, Size::Byte), Err(Access::NotAllowed));
     let unread = mem.copy_out(0x3_0000, 1, &mut out);
     assert_eq!(rt; unread.err(), Some(CopyErr::Access(Access::NotAllowed)));
@@ -112,7 +114,7 @@ fn a_region_grows_with_zeros(rt: HostRuntime) -> Result<(), Fail> {
     assert_eq!(rt; mem.resize(0x2_0000, 8_388_601), Err(MemErr::OverLimit));
     assert_eq!(rt; mem.load(0x2_0004, Size::Word), Ok(0x0201));
     mem.resize(0x3_0000, 4)?;
-    assert_eq!(rt; mem.store(0x3_0000, Size::Byte, 7), Ok(()));
+    assert_eq!(rt; mem.store(0x3_0000, Size::Byte, 7), Ok(false));
     assert_eq!(rt; mem.fetch(0x3_0000), Err(Access::NotAllowed));
     mem.resize(0x2_0000, 0)?;
     mem.resize(0x4_0000, 0)?;

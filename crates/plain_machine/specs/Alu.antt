@@ -40,11 +40,11 @@ computed ops.Divu x y = if y == 0 then 2 ^ 32 - 1 else x / y
 computed ops.Rem x y = if y == 0 then x else word (int_rem (signed x) (signed y))
 computed ops.Remu x y = if y == 0 then x else x % y
 
--- what a branch asks
-abbrev pub holds : Comparison → ℕ → ℕ → Bool
-holds comparisons.Eq x y = x == y
-holds comparisons.Ne x y = not (x == y)
-holds comparisons.Lt x y = int_lt (signed x) (signed y)
-holds comparisons.Ge x y = not (int_lt (signed x) (signed y))
-holds comparisons.Ltu x y = nat_lt x y
-holds comparisons.Geu x y = not (nat_lt x y)
+-- whether a branch is taken
+abbrev pub is_taken : Comparison → ℕ → ℕ → Bool
+is_taken comparisons.Eq x y = x == y
+is_taken comparisons.Ne x y = not (x == y)
+is_taken comparisons.Lt x y = int_lt (signed x) (signed y)
+is_taken comparisons.Ge x y = not (int_lt (signed x) (signed y))
+is_taken comparisons.Ltu x y = nat_lt x y
+is_taken comparisons.Geu x y = not (nat_lt x y)

@@ -1,10 +1,10 @@
 -- The system calls of the plain machine.
-use Rattle.std.specs.Prelude.{ℕ, ◌-◌, ◌%◌, ◌^◌, ◌==◌, ◌||◌, Bool, nat_lt, nat_le, ◌+◌, min, if◌then◌else◌, List, [], ◌∷◌, ◌++◌, length, take, drop, Option, Some, None, Result, Ok, Err}
+use Rattle.std.specs.Prelude.{ℕ, ◌-◌, ◌%◌, ◌^◌, ◌==◌, ◌||◌, Bool, nat_lt, nat_le, ◌+◌, min, if◌then◌else◌, List, ◌++◌, length, take, drop, Option, Some, None, Result, Ok, Err}
 use Rattle.std.specs.List.{list_any}
 use Rattle.plain_machine.specs.declared.access.Access.{Access}
 use Rattle.plain_machine.specs.declared.access.MemErr.{MemErr}
-use Rattle.plain_machine.specs.Region.{region_of}
-use Rattle.plain_machine.specs.Memory.{Memory, written, read, touches_code, refusal, others, resized, data_flags}
+use Rattle.plain_machine.specs.Region.{Area}
+use Rattle.plain_machine.specs.Memory.{Memory, written, read, touches_code, refusal, region_from, others, lengthened}
 use Rattle.plain_machine.specs.declared.cpu.Cpu.{Cpu}
 use Rattle.plain_machine.specs.Registers.{with_register}
 use Rattle.plain_machine.specs.Step.{reg, next}
@@ -46,7 +46,7 @@ read_call cpu m io = if reg cpu 10 == 0 then read_input cpu m io (reg cpu 11) (m
 
 abbrev pub after_write : Cpu → Memory → Io → ℕ → Result (List ℕ) Access → Reply
 after_write cpu m io len (Err _) = back cpu m io (minus 14)
-after_write cpu m io len (Ok bytes) = if nat_lt 1048576 (length (io.output ++ bytes)) then (OutputFull, cpu, m, io) else (Back None, given cpu len, m, record io { output = io.output ++ bytes })
+after_write cpu m io len (Ok bytes) = if nat_lt 1048576 (length io.output + len) then (OutputFull, cpu, m, io) else (Back None, given cpu len, m, record io { output = io.output ++ bytes })
 
 abbrev pub write_output : Cpu → Memory → Io → ℕ → ℕ → Reply
 write_output cpu m io buf len = if len == 0 then back cpu m io 0 else after_write cpu m io len (read m buf len)
@@ -64,21 +64,28 @@ exit_call cpu m io = (Exit (reg cpu 10 % 256), cpu, m, io)
 abbrev pub is_empty : Heap → Bool
 is_empty heap = heap.start == heap.end
 
--- why the heap may not end at a
-abbrev pub heap_refusal : Memory → Heap → ℕ → Option MemErr
-heap_refusal m heap a = if is_empty heap then (if a == heap.start then None else refusal m heap.start (a - heap.start)) else refusal (others m heap.start) heap.start (a - heap.start)
+-- An empty heap has no region, and another region may start where it does.
+abbrev pub heap_region : Memory → Heap → Option Area
+heap_region m heap = if is_empty heap then None else region_from m heap.start
 
--- the memory with the heap's end at a. An empty heap has no region, and another may start where it does
+abbrev pub without_heap : Memory → Heap → Memory
+without_heap m heap = if is_empty heap then m else others m heap.start
+
+-- why the heap may not be that long
+abbrev pub heap_refusal : Memory → Heap → ℕ → Option MemErr
+heap_refusal m heap len = refusal (without_heap m heap) heap.start len
+
+-- the memory with the heap that long
 abbrev pub with_heap : Memory → Heap → ℕ → Memory
-with_heap m heap a = if is_empty heap then (if a == heap.start then m else m ++ region_of heap.start data_flags [] (a - heap.start) ∷ []) else resized m heap.start (a - heap.start)
+with_heap m heap len = if len == 0 then without_heap m heap else lengthened (heap_region m heap) m heap.start len
 
 abbrev pub after_brk : Cpu → Memory → Io → Heap → ℕ → Option MemErr → Reply
-after_brk cpu m io heap a None = (Back None, given cpu a, with_heap m heap a, record io { heap = Some (record heap { end = a }) })
+after_brk cpu m io heap a None = (Back None, given cpu a, with_heap m heap (a - heap.start), record io { heap = Some (record heap { end = a }) })
 after_brk cpu m io heap a (Some _) = back cpu m io heap.end
 
 abbrev pub brk_at : Cpu → Memory → Io → Option Heap → ℕ → Reply
 brk_at cpu m io None a = back cpu m io (minus 12)
-brk_at cpu m io (Some heap) a = if nat_lt a heap.start then back cpu m io heap.end else after_brk cpu m io heap a (heap_refusal m heap a)
+brk_at cpu m io (Some heap) a = if nat_lt a heap.start then back cpu m io heap.end else after_brk cpu m io heap a (heap_refusal m heap (a - heap.start))
 
 abbrev pub brk_call : Cpu → Memory → Io → Reply
 brk_call cpu m io = brk_at cpu m io io.heap (reg cpu 10)

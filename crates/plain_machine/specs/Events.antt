@@ -1,6 +1,7 @@
 -- What a tool sees of a run, before each instruction that is done, also where that then faults.
-use Rattle.std.specs.Prelude.{ℕ, ◌==◌, ◌||◌, Bool, false, if◌then◌else◌, List, [], ◌∷◌, Option, Some, None, Result, Ok, Err}
+use Rattle.std.specs.Prelude.{ℕ, ◌==◌, ◌||◌, Bool, false, if◌then◌else◌, List, [], ◌∷◌, option_map, Result, Ok, Err}
 use Rattle.std.specs.List.{flat_map}
+use Rattle.std.specs.Option.{option_to_list}
 use Rattle.rv_decode.specs.declared.ins.Ins.{Ins}
 use Rattle.rv_decode.specs.declared.ins.Ins.TheVariants as ins
 use Rattle.rv_decode.specs.Table.{instruction}
@@ -24,13 +25,8 @@ is_call (ins.Jal rd imm) = is_link rd
 is_call (ins.Jalr rd rs1 imm) = is_link rd
 is_call _ = false
 
-abbrev pub call_to : ℕ → Option ℕ → List Event
-call_to at None = []
-call_to at (Some to) = Call at to ∷ []
-
-abbrev pub access_at : ℕ → Option Accessed → List Event
-access_at at None = []
-access_at at (Some a) = Mem at a.address (size_of a.size) a.store ∷ []
+abbrev pub access_event : ℕ → Accessed → Event
+access_event at a = Mem at a.address (size_of a.size) a.store
 
 -- By the tool and the instruction:
 --   blocks   one that begins a block    its address
@@ -38,8 +34,8 @@ access_at at (Some a) = Mem at a.address (size_of a.size) a.store ∷ []
 --   memory   a load or a store          its address, and the address, size and kind of its access
 abbrev pub seen_at : Tool → Cpu → Bool → Ins → List Event
 seen_at tools.Blocks cpu begins i = if begins then Block cpu.pc ∷ [] else []
-seen_at tools.Calls cpu begins i = if is_call i then call_to cpu.pc (target_of i cpu) else []
-seen_at tools.Memory cpu begins i = access_at cpu.pc (access_of i cpu)
+seen_at tools.Calls cpu begins i = if is_call i then option_to_list (option_map (Call cpu.pc) (target_of i cpu)) else []
+seen_at tools.Memory cpu begins i = option_to_list (option_map (access_event cpu.pc) (access_of i cpu))
 
 abbrev pub seen_before : Tool → Cpu → Bool → Result ℕ Access → List Event
 seen_before tool cpu begins (Err _) = []

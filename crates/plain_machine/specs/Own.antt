@@ -1,15 +1,12 @@
 -- The map answers of a guest that is alone: its own calls say which file a module is.
-use Rattle.std.specs.Prelude.{◌≡◌, ℕ, ◌&&◌, if◌then◌else◌, List, [], ◌∷◌, ◌++◌, slice_get, slice_set, Option, Some, None}
+use Rattle.std.specs.Prelude.{◌≡◌, ℕ, ◌&&◌, if◌then◌else◌, List, [], ◌∷◌, ◌++◌, slice_get, slice_set}
+use Rattle.std.specs.Option.{option_to_list}
 use Rattle.plain_machine.specs.Machine.{State, Action, Maps, Replaces, action, Setting, Guest, is_below}
 use Rattle.plain_machine.specs.Run.{plain}
 
-abbrev pub if_there : Option ℕ → List ℕ
-if_there None = []
-if_there (Some f) = f ∷ []
-
 -- the answer that an action takes, where the modules are these files: the file of the module that it maps
 abbrev pub taken_by : List ℕ → Action → List ℕ
-taken_by files (Maps k next) = if_there (slice_get files k)
+taken_by files (Maps k next) = option_to_list (slice_get files k)
 taken_by files _ = []
 
 -- the files of the modules once module k is to be file f, where both numbers are in range
@@ -28,4 +25,4 @@ own_answers w files (s ∷ states) = taken_by files (action s) ++ own_answers w 
 -- The map answers of a guest's run are, first, the file of its program, and then those that its own calls make them.
 -- Before it the modules are these files.
 abbrev pub AreOwn : Setting → Guest → List ℕ → List ℕ → Type 0
-AreOwn w g files maps = maps ≡ if_there (slice_get files g.program) ++ own_answers w files (plain w g maps).states
+AreOwn w g files maps = maps ≡ option_to_list (slice_get files g.program) ++ own_answers w files (plain w g maps).states

@@ -1,5 +1,5 @@
 -- One word done: the effect of an instruction, and its performance.
-use Rattle.std.specs.Prelude.{ℕ, ◌+◌, ◌*◌, ◌/◌, ◌%◌, ◌^◌, ◌<◌, ◌==◌, if◌then◌else◌, ℤ, slice_index, Result, Ok, Err}
+use Rattle.std.specs.Prelude.{ℕ, ◌+◌, ◌*◌, ◌/◌, ◌%◌, ◌^◌, ◌<◌, ◌==◌, if◌then◌else◌, Bool, true, false, ℤ, slice_index, Option, Some, None, Result, Ok, Err}
 use Rattle.std.specs.Int.{w8, w16, cast_signed}
 use Rattle.rv_decode.specs.declared.ins.Ins.{Ins}
 use Rattle.rv_decode.specs.declared.ins.Ins.TheVariants as ins
@@ -22,7 +22,7 @@ use Rattle.plain_machine.specs.declared.effect.Effect.TheVariants.{Set, Jump, St
 use Rattle.plain_machine.specs.declared.effect.Extension.{Extension}
 use Rattle.plain_machine.specs.declared.effect.Extension.TheVariants.{Zero, Sign}
 use Rattle.plain_machine.specs.Registers.{with_register}
-use Rattle.plain_machine.specs.Alu.{computed, holds, word}
+use Rattle.plain_machine.specs.Alu.{computed, is_taken, word}
 
 abbrev pub reg : Cpu → ℕ → ℕ
 reg cpu r = slice_index cpu.regs r
@@ -31,8 +31,20 @@ reg cpu r = slice_index cpu.regs r
 abbrev pub offset : ℕ → ℤ → ℕ
 offset base imm = (base + word imm) % 2 ^ 32
 
+-- the address of a load or a store: a register, and an offset
+abbrev pub address : Cpu → ℕ → ℤ → ℕ
+address cpu rs1 imm = offset (reg cpu rs1) imm
+
+-- where JAL goes
+abbrev pub jal_target : Cpu → ℤ → ℕ
+jal_target cpu imm = offset cpu.pc imm
+
+-- where JALR goes: bit 0 is cleared
+abbrev pub jalr_target : Cpu → ℕ → ℤ → ℕ
+jalr_target cpu rs1 imm = offset (reg cpu rs1) imm / 2 * 2
+
 abbrev pub branch : Comparison → ℕ → ℕ → ℕ → Effect
-branch c x y target = if holds c x y then Jump 0 target else Nothing
+branch c x y target = if is_taken c x y then Jump 0 target else Nothing
 
 -- a loaded number, with the upper bits filled
 abbrev pub extended : Extension → Size → ℕ → ℕ
@@ -49,22 +61,22 @@ load rd e size (Err _) = effects.Fault kinds.Load
 abbrev pub effect_of : Ins → Cpu → Memory → Effect
 effect_of (ins.Lui rd imm) cpu m = Set rd (word imm)
 effect_of (ins.Auipc rd imm) cpu m = Set rd (offset cpu.pc imm)
-effect_of (ins.Jal rd imm) cpu m = Jump rd (offset cpu.pc imm)
-effect_of (ins.Jalr rd rs1 imm) cpu m = Jump rd (offset (reg cpu rs1) imm / 2 * 2)
+effect_of (ins.Jal rd imm) cpu m = Jump rd (jal_target cpu imm)
+effect_of (ins.Jalr rd rs1 imm) cpu m = Jump rd (jalr_target cpu rs1 imm)
 effect_of (ins.Beq rs1 rs2 imm) cpu m = branch comparisons.Eq (reg cpu rs1) (reg cpu rs2) (offset cpu.pc imm)
 effect_of (ins.Bne rs1 rs2 imm) cpu m = branch comparisons.Ne (reg cpu rs1) (reg cpu rs2) (offset cpu.pc imm)
 effect_of (ins.Blt rs1 rs2 imm) cpu m = branch comparisons.Lt (reg cpu rs1) (reg cpu rs2) (offset cpu.pc imm)
 effect_of (ins.Bge rs1 rs2 imm) cpu m = branch comparisons.Ge (reg cpu rs1) (reg cpu rs2) (offset cpu.pc imm)
 effect_of (ins.Bltu rs1 rs2 imm) cpu m = branch comparisons.Ltu (reg cpu rs1) (reg cpu rs2) (offset cpu.pc imm)
 effect_of (ins.Bgeu rs1 rs2 imm) cpu m = branch comparisons.Geu (reg cpu rs1) (reg cpu rs2) (offset cpu.pc imm)
-effect_of (ins.Lb rd rs1 imm) cpu m = load rd Sign Byte (loaded m (offset (reg cpu rs1) imm) Byte)
-effect_of (ins.Lh rd rs1 imm) cpu m = load rd Sign Half (loaded m (offset (reg cpu rs1) imm) Half)
-effect_of (ins.Lw rd rs1 imm) cpu m = load rd Sign Word (loaded m (offset (reg cpu rs1) imm) Word)
-effect_of (ins.Lbu rd rs1 imm) cpu m = load rd Zero Byte (loaded m (offset (reg cpu rs1) imm) Byte)
-effect_of (ins.Lhu rd rs1 imm) cpu m = load rd Zero Half (loaded m (offset (reg cpu rs1) imm) Half)
-effect_of (ins.Sb rs1 rs2 imm) cpu m = Store (offset (reg cpu rs1) imm) Byte (reg cpu rs2)
-effect_of (ins.Sh rs1 rs2 imm) cpu m = Store (offset (reg cpu rs1) imm) Half (reg cpu rs2)
-effect_of (ins.Sw rs1 rs2 imm) cpu m = Store (offset (reg cpu rs1) imm) Word (reg cpu rs2)
+effect_of (ins.Lb rd rs1 imm) cpu m = load rd Sign Byte (loaded m (address cpu rs1 imm) Byte)
+effect_of (ins.Lh rd rs1 imm) cpu m = load rd Sign Half (loaded m (address cpu rs1 imm) Half)
+effect_of (ins.Lw rd rs1 imm) cpu m = load rd Sign Word (loaded m (address cpu rs1 imm) Word)
+effect_of (ins.Lbu rd rs1 imm) cpu m = load rd Zero Byte (loaded m (address cpu rs1 imm) Byte)
+effect_of (ins.Lhu rd rs1 imm) cpu m = load rd Zero Half (loaded m (address cpu rs1 imm) Half)
+effect_of (ins.Sb rs1 rs2 imm) cpu m = Store (address cpu rs1 imm) Byte (reg cpu rs2)
+effect_of (ins.Sh rs1 rs2 imm) cpu m = Store (address cpu rs1 imm) Half (reg cpu rs2)
+effect_of (ins.Sw rs1 rs2 imm) cpu m = Store (address cpu rs1 imm) Word (reg cpu rs2)
 effect_of (ins.Addi rd rs1 imm) cpu m = Set rd (computed ops.Add (reg cpu rs1) (word imm))
 effect_of (ins.Slti rd rs1 imm) cpu m = Set rd (computed ops.Slt (reg cpu rs1) (word imm))
 effect_of (ins.Sltiu rd rs1 imm) cpu m = Set rd (computed ops.Sltu (reg cpu rs1) (word imm))
@@ -97,6 +109,41 @@ effect_of ins.FenceI cpu m = Nothing
 effect_of ins.Ecall cpu m = Ask
 effect_of ins.Ebreak cpu m = effects.Fault Break
 effect_of ins.None cpu m = effects.Fault Illegal
+
+-- ---- what a tool may see of an instruction before it is done
+
+-- the bytes that a load or a store is to reach
+pub record Accessed : Type 0 where
+  pub address : ℕ
+  pub size : Size
+  -- they are written, not read
+  pub store : Bool
+
+abbrev pub reads : Cpu → ℕ → ℤ → Size → Option Accessed
+reads cpu rs1 imm size = Some (record { address = address cpu rs1 imm; size = size; store = false })
+
+abbrev pub writes : Cpu → ℕ → ℤ → Size → Option Accessed
+writes cpu rs1 imm size = Some (record { address = address cpu rs1 imm; size = size; store = true })
+
+-- none where the instruction is no load and no store
+abbrev pub access_of : Ins → Cpu → Option Accessed
+access_of (ins.Lb rd rs1 imm) cpu = reads cpu rs1 imm Byte
+access_of (ins.Lh rd rs1 imm) cpu = reads cpu rs1 imm Half
+access_of (ins.Lw rd rs1 imm) cpu = reads cpu rs1 imm Word
+access_of (ins.Lbu rd rs1 imm) cpu = reads cpu rs1 imm Byte
+access_of (ins.Lhu rd rs1 imm) cpu = reads cpu rs1 imm Half
+access_of (ins.Sb rs1 rs2 imm) cpu = writes cpu rs1 imm Byte
+access_of (ins.Sh rs1 rs2 imm) cpu = writes cpu rs1 imm Half
+access_of (ins.Sw rs1 rs2 imm) cpu = writes cpu rs1 imm Word
+access_of _ cpu = None
+
+-- where a jump is to go, aligned or not; none where the instruction is no JAL and no JALR
+abbrev pub target_of : Ins → Cpu → Option ℕ
+target_of (ins.Jal rd imm) cpu = Some (jal_target cpu imm)
+target_of (ins.Jalr rd rs1 imm) cpu = Some (jalr_target cpu rs1 imm)
+target_of _ cpu = None
+
+-- ---- performance
 
 -- the register that the effect changes is one of the 32
 abbrev pub SetsRegister : Effect → Type 0

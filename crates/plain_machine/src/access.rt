@@ -3,6 +3,7 @@ ghost use Rattle.std.specs.Prelude.{◌≡◌};
 ghost use Rattle.plain_machine.specs.Memory.{size_of};
 
 use std::alloc::{AllocError, AllocFailed};
+use thiserror::Error;
 
 /// What may be done with the bytes of a region: PF_R, PF_W and PF_X of a program header.
 #[derive(Clone, Copy, Debug, PartialEq, Eq)]
@@ -43,17 +44,22 @@ pub enum Access {
 }
 
 /// Why a region could not be added, removed or resized.
-#[derive(Clone, Copy, Debug, PartialEq, Eq)]
+#[derive(Clone, Copy, Debug, PartialEq, Eq, Error)]
 pub enum MemErr {
     /// It would have a byte in common with another region.
+    #[error("overlap")]
     Overlap,
     /// All regions would have more than 8,388,608 bytes.
+    #[error("overlimit")]
     OverLimit,
     /// It would end past the address 4,294,967,295.
+    #[error("pastend")]
     PastEnd,
     /// No region starts there.
+    #[error("notmapped")]
     NotMapped,
     /// The host has no memory left.
+    #[error("memory")]
     Memory,
 }
 

@@ -1,5 +1,5 @@
 ghost use Rattle.std.specs.Prelude.{◌≡◌, ◌+◌, ◌-◌, ◌≤◌, ◌<◌, ◌^◌};
-ghost use Rattle.rv_decode.specs.Word.{field, signed, value_of, imm_i, imm_s, imm_b, imm_u, imm_j};
+ghost use Rattle.rv_decode.specs.Word.{field, twos_complement, value_of, imm_i, imm_s, imm_b, imm_u, imm_j};
 
 // The bits of the word from `high` down to `low`, both numbered from 0 at the least.
 pub fn bits(word: u32, high: u32, low: u32) -> u32
@@ -16,7 +16,7 @@ pub fn sign_extended(raw: u32, len: u32) -> i32
     requires positive { 0 < len }
     requires within { len ≤ 32 }
     requires fits { raw < 2 ^ len }
-    ensures { result ≡ signed len raw }
+    ensures { result ≡ twos_complement len raw }
 {
     (raw << (32 - len)).cast_signed() >> (32 - len)
 }

@@ -1,11 +1,12 @@
 ghost use Rattle.std.specs.Prelude.{◌≡◌, ◌<◌, ◌*ℤ◌, ◌/◌, ◌^◌, ◌==◌, pos, if◌then◌else◌, int_div, int_rem, ◌-◌};
-ghost use Rattle.plain_machine.specs.Alu.{computed, holds, high, signed, word};
+ghost use Rattle.plain_machine.specs.Alu.{computed, high, is_taken, signed, word};
 
 use plain_machine::{Comparison, Op};
 
-/// Whether the comparison holds of the two words.
-pub fn holds(comparison: Comparison, x: u32, y: u32) -> bool
-    ensures { result ≡ holds comparison x y }
+/// Whether a branch with this comparison is taken.
+#[inline(always)]
+pub fn is_taken(comparison: Comparison, x: u32, y: u32) -> bool
+    ensures { result ≡ is_taken comparison x y }
 {
     match comparison {
         Comparison::Eq => x == y,
@@ -18,6 +19,7 @@ pub fn holds(comparison: Comparison, x: u32, y: u32) -> bool
 }
 
 /// What the operation makes of the two words.
+#[inline(always)]
 pub fn compute(op: Op, x: u32, y: u32) -> u32
     ensures { result ≡ computed op x y }
 {
