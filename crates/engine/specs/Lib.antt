@@ -1,3 +1,4 @@
-pub mod Leaving
-pub mod Engine
 pub mod Words
+pub mod Seeing
+pub mod Standing
+pub mod Runs

@@ -1,38 +1,52 @@
--- Words that are done one after the other.
-use Rattle.std.specs.Prelude.{◌≡◌, ℕ, ◌<◌, ◌≤◌, nat_lt, Bool, if◌then◌else◌, List, [], ◌∷◌, length, take}
-use Rattle.plain_machine.specs.declared.cpu.Cpu.{Cpu}
+-- Words that are done one after the other, by position.
+use Rattle.std.specs.Prelude.{◌≡◌, ℕ, zero, suc, ◌+◌, ◌-◌, ◌<◌, ◌≤◌, ◌==◌, nat_lt, Bool, if◌then◌else◌, List, [], ◌∷◌, ◌++◌, length, slice_index}
 use Rattle.plain_machine.specs.declared.cpu.Done.{Done}
 use Rattle.plain_machine.specs.declared.cpu.Done.TheVariants as done
-use Rattle.plain_machine.specs.Memory.{Memory}
 use Rattle.plain_machine.specs.Step.{Outcome, step}
+use Rattle.plain_machine.specs.Machine.{State}
+use Rattle.fragment.specs.declared.Exit.{Exit}
+use Rattle.fragment.specs.Parts.{Parts}
 use Rattle.engine.specs.declared.block.Left.{Left}
 use Rattle.engine.specs.declared.block.Left.TheVariants as left
 
--- the rest is done where control goes on behind the word
-abbrev pub followed_by : (Cpu → Memory → Outcome) → Outcome → Outcome
-followed_by rest (done.Next, cpu, m) = rest cpu m
-followed_by rest (done.Taken, cpu, m) = (done.Taken, cpu, m)
-followed_by rest (done.Asked, cpu, m) = (done.Asked, cpu, m)
-followed_by rest (done.Touched span, cpu, m) = (done.Touched span, cpu, m)
-followed_by rest (done.Fault kind, cpu, m) = (done.Fault kind, cpu, m)
+abbrev pub outcome_in : State → ℕ → Outcome
+outcome_in s word = step word s.cpu s.memory
 
--- what the last of the words that is done did, and the processor and the memory after it
-abbrev pub all_done : List ℕ → Cpu → Memory → Outcome
-all_done [] cpu m = (done.Next, cpu, m)
-all_done (word ∷ words) cpu m = followed_by (λ c after. all_done words c after) (step word cpu m)
+-- the state that a word leaves
+abbrev pub state_after : State → ℕ → State
+state_after s word = record s { cpu = (outcome_in s word).1; memory = (outcome_in s word).2 }
 
--- how words are left by what the last of them did, where further ones stand behind it or not
-abbrev pub left_at : Bool → Done → Left
-left_at more done.Next = if more then left.Fuel else left.Exit
-left_at more done.Taken = left.Exit
-left_at more done.Asked = left.Asked
-left_at more (done.Touched span) = left.Touched span
-left_at more (done.Fault kind) = left.Fault kind
+-- the state before word number i, where the words are done from state s on
+unfoldable pub state_at : List ℕ → State → ℕ → State
+state_at words s zero = s
+state_at words s (suc i) = state_after (state_at words s i) (slice_index words i)
 
--- n of the words are done, one at least, and left so by the last of them
-pub record AreLeft (words : List ℕ) (n : ℕ) (cpu : Cpu) (m : Memory) (how : Left) (c : Cpu) (after : Memory) : Type 0 where
+-- what word number i did
+abbrev pub done_at : List ℕ → State → ℕ → Done
+done_at words s i = (outcome_in (state_at words s i) (slice_index words i)).0
+
+-- the states before the first n words, the first of which alone begins a block
+unfoldable pub marks_before : List ℕ → State → ℕ → List (State × Bool)
+marks_before words s zero = []
+marks_before words s (suc n) = marks_before words s n ++ (state_at words s n, n == 0) ∷ []
+
+-- the exit behind the last word: of a branch, whose comparison did not hold, the second
+abbrev pub last_exit : List Exit → ℕ
+last_exit exits = if length exits == 2 then 1 else 0
+
+-- how a block is left by what the last word done did, where further ones stand behind it or not
+abbrev pub left_by : List Exit → Bool → Done → Left
+left_by exits more done.Next = if more then left.Fuel else left.Exit (last_exit exits)
+left_by exits more done.Taken = left.Exit 0
+left_by exits more done.Asked = left.Asked
+left_by exits more (done.Touched span) = left.Touched span
+left_by exits more (done.Fault kind) = left.Fault kind
+
+-- From state s the first n words of the block are done, one at least. All before the last went on to the next; by what
+-- the last did the block is left so, in state next.
+pub record DoesWords (block : Parts) (n : ℕ) (s : State) (how : Left) (next : State) : Type 0 where
   pub some : 0 < n
-  pub at_most : n ≤ length words
-  pub last : Done
-  pub did : all_done (take n words) cpu m ≡ (last, c, after)
-  pub left : how ≡ left_at (nat_lt n (length words)) last
+  pub at_most : n ≤ length block.words
+  pub went : (i : ℕ) → i + 1 < n → done_at block.words s i ≡ done.Next
+  pub left : how ≡ left_by block.exits (nat_lt n (length block.words)) (done_at block.words s (n - 1))
+  pub reached : next ≡ state_at block.words s n
