@@ -1,4 +1,6 @@
-pub mod KeptCode
-pub mod Steps
-pub mod Reach
-pub mod WordsDone
+mod KeptCode
+mod Steps
+mod Stored
+mod Starts
+mod Path
+mod Reach

@@ -1,6 +1,6 @@
 -- How far a run has come inside a block.
-use Rattle.std.proofs.Common.{◌≡◌, ℕ, ◌+◌, ◌-◌, ◌*◌, ◌%◌, ◌<◌, ◌≤◌, ◌||◌, ◌==◌, zero, suc, Bool, true, false, if◌then◌else◌, List, length, slice_index, Option, Some, None, Result, Ok, Err, refl, sym, ◌∙◌, ap, arith, inl, inr, ⊎_elim, subst, ◌⊎◌}
-use Rattle.std.specs.Prelude.{find}
+use Rattle.std.proofs.Common.{◌≡◌, ℕ, ◌+◌, ◌-◌, ◌*◌, ◌%◌, ◌<◌, ◌≤◌, ◌||◌, ◌==◌, zero, suc, Bool, true, false, if◌then◌else◌, List, [], ◌∷◌, ◌++◌, length, slice_index, Option, Some, None, Result, Ok, Err, refl, sym, ◌∙◌, ap, arith, inl, inr, ⊎_elim, subst, ◌⊎◌}
+use Rattle.std.specs.Prelude.{find, nat_lt}
 use Rattle.std.proofs.lemmas.Bool.{cases_Bool}
 use Rattle.std.proofs.lemmas.Bool.Decides.{nat_tests}
 use Rattle.std.proofs.lemmas.Option.{same_Some}
@@ -8,6 +8,7 @@ use Rattle.cc_base.specs.Image.{Code}
 use Rattle.cc_base.specs.Span.{Range}
 use Rattle.rv_decode.specs.declared.ins.Isa.{Isa}
 use Rattle.rv_decode.specs.Table.{instruction}
+use Rattle.probe_tools.specs.declared.tool.Tool.{Tool}
 use Rattle.plain_machine.specs.declared.access.Access.{Access}
 use Rattle.plain_machine.specs.declared.access.Access.TheVariants.{NotAllowed}
 use Rattle.plain_machine.specs.declared.effect.Effect.{Effect}
@@ -20,20 +21,22 @@ use Rattle.plain_machine.specs.declared.ends.End.TheVariants as ends
 use Rattle.plain_machine.specs.Region.{Area, holds, end_of, bytes_at, meets}
 use Rattle.plain_machine.specs.Memory.{Memory, IsMemory, code_of, has_code, fetched, number_of, reach, stored, touches_code, size_of}
 use Rattle.plain_machine.specs.Step.{Outcome, step, performed, effect_of, store, next}
-use Rattle.plain_machine.specs.Machine.{State, Setting, Ends, Goes, turn, turn_at, stepped, call}
-use Rattle.plain_machine.specs.Run.{Run, run, rest_of, ended, after}
-use Rattle.plain_machine.specs.Cut.{ends_block, closes, closes_with, touched, begins, leaves, place_of}
-use Rattle.plain_machine.specs.Sight.{Sight, sight, sight_of, begun}
-use Rattle.plain_machine.proofs.RunLaws.{run-goes, run-ends, run-call, sight-begins, sight-inside, sight-closed, sight-left, sight-spent}
+use Rattle.plain_machine.specs.Machine.{State, Setting, Ends, Goes, action, action_at, stepped, call, transition_by}
+use Rattle.plain_machine.specs.Run.{Run, run, run_behind, ended}
+use Rattle.plain_machine.specs.Cut.{ends_block, closes, closes_with, touched, begins, leaves, place_of, Marked, marked, marked_in, with_marks, over}
+use Rattle.plain_machine.proofs.RunLaws.{after, run-goes, run-ends, run-call, marked-begins, marked-inside, marked-closed, marked-left, marked-spent, with-more}
+use Rattle.fragment.specs.declared.Exit.{Exit}
 use Rattle.fragment.specs.Parts.{Parts}
 use Rattle.fragment.specs.Build.{IsBuilt, word_at, has_word, last}
 use Rattle.guest_mem.proofs.MemoryLemmas.{found_ends}
-use Rattle.engine.specs.Leaving.{left_by}
-use Rattle.engine.specs.Engine.{DoesBlock, EndsInBlock, AsksInBlock, Does}
+use Rattle.engine.specs.Words.{DoesWords, state_at, done_at, is_first, marks_before, last_exit, leaving, left_by}
+use Rattle.engine.specs.Standing.{SameCode}
+use Rattle.engine.specs.Runs.{RunsBlock, behind}
 use Rattle.engine.specs.declared.block.Left.{Left}
 use Rattle.engine.specs.declared.block.Left.TheVariants as lefts
 use Rattle.engine.proofs.KeptCode.{holds-found, found_is, and_left}
 use Rattle.engine.proofs.Steps.{GoesOn, goes-on, Keeps, KeepsCode, keeps-code}
+use Rattle.engine.proofs.Path.{state-first, state-more, marks-none, marks-more, state-through, done-through, went-more}
 
 -- the i words done so far end with one that ends a block
 abbrev pub closed : Isa → List ℕ → ℕ → Bool
@@ -50,23 +53,32 @@ abbrev pub place : Area → ℕ → Option Area
 place region zero = None
 place region (suc i) = Some region
 
--- the block is seen once it has begun
-abbrev pub opened : ℕ → ℕ → Sight → Sight
-opened address zero v = v
-opened address (suc i) v = begun address v
-
 -- After i words of the block a run from s is a run from now, with this fuel.
 pub record Reaches (isa : Isa) (max : ℕ) (region : Area) (block : Parts) (fuel : ℕ) (s : State) (i rest : ℕ) (now : State) : Type 0 where
   pub pc : closed isa block.words i ≡ false → now.cpu.pc ≡ block.address + 4 * i
   pub isa_kept : now.cpu.isa ≡ isa
   pub memory : IsMemory now.memory
   pub here : find (has_code block.address 1) now.memory ≡ Some region
-  pub seen : (w : Setting) (answers : List ℕ) → sight_of max (run w fuel answers s)
-      ≡ opened block.address i (sight max (room isa max block.words i) (place region i) (run w rest answers now))
+  pub same : SameCode s.memory now.memory
+  pub spent : rest + i ≡ fuel
+  pub went : (k : ℕ) → k < i → done_at block.words s k ≡ done.Next
+  pub at : now ≡ state_at block.words s i
+  pub seen : (w : Setting) (answers : List ℕ) → marked max (run w fuel answers s)
+      ≡ with_marks (marks_before block.words s i) (marked_in max (room isa max block.words i) (place region i) (run w rest answers now))
 
 pub reaches-start : (isa : Isa) (max : ℕ) (region : Area) (block : Parts) (fuel : ℕ) (s : State) → s.cpu.pc ≡ block.address → s.cpu.isa ≡ isa → IsMemory s.memory →
     find (has_code block.address 1) s.memory ≡ Some region → Reaches isa max region block fuel s 0 fuel s
-reaches-start isa max region block fuel s at same good here = record { pc = λ e. omega (arith, at); isa_kept = same; memory = good; here = here; seen = λ w answers. refl }
+reaches-start isa max region block fuel s at same good here = record {
+  pc = λ e. omega (arith, at);
+  isa_kept = same;
+  memory = good;
+  here = here;
+  same = λ a. refl;
+  spent = omega arith;
+  went = λ k lt. absurd (omega arith);
+  at = sym (state-first block.words s);
+  seen = λ w answers. ap (λ marks. with_marks marks (marked max (run w fuel answers s))) (sym (marks-none block.words s));
+}
 
 -- ---- the word at i
 
@@ -89,9 +101,9 @@ is_lacking : (b : Bool) (x : ℕ) → (if b then Some x else None) ≡ None → 
 is_lacking true x h = cc
 is_lacking false x h = refl
 
-pub inner_open : (code : Code) (isa : Isa) (max : ℕ) (block : Parts) (i : ℕ) → IsBuilt code isa max block → i < length block.words → closed isa block.words i ≡ false
-inner_open code isa max block zero built lt = refl
-inner_open code isa max block (suc i) built lt = built.inner i (omega arith)
+pub inner_open : (code : Code) (isa : Isa) (tool : Tool) (max : ℕ) (block : Parts) (i : ℕ) → IsBuilt code isa tool max block → i < length block.words → closed isa block.words i ≡ false
+inner_open code isa tool max block zero built lt = refl
+inner_open code isa tool max block (suc i) built lt = built.inner i (omega arith)
 
 held_end : (x : ℕ) (region : Area) → holds x 4 region ≡ true → x + 4 ≤ end_of region
 held_end x region h = grind (arith, nat_tests)
@@ -108,14 +120,14 @@ fetches-at isa region address x word now pc good here is =
     ap (reach (λ r. r.flags.execute) act) at ∙ ap (λ b. if b then Ok (act region) else Err NotAllowed) runs ∙ ap Ok value in
     record { held = held; at = at; fetch = fetch; ends = held_end now.cpu.pc region held }
 
-pub fetches : (isa : Isa) (max : ℕ) (region : Area) (block : Parts) (fuel : ℕ) (s : State) (i rest word : ℕ) (now : State) →
-    IsBuilt (code_of region) isa max block → i < length block.words → word ≡ slice_index block.words i →
+pub fetches : (isa : Isa) (tool : Tool) (max : ℕ) (region : Area) (block : Parts) (fuel : ℕ) (s : State) (i rest word : ℕ) (now : State) →
+    IsBuilt (code_of region) isa tool max block → i < length block.words → word ≡ slice_index block.words i →
     Reaches isa max region block fuel s i rest now → Fetches isa region now word
-fetches isa max region block fuel s i rest word now built lt is reach =
-    fetches-at isa region block.address (block.address + 4 * i) word now (reach.pc (inner_open _ isa max block i built lt)) reach.memory reach.here (built.words i lt ∙ ap Some (sym is))
+fetches isa tool max region block fuel s i rest word now built lt is reach =
+    fetches-at isa region block.address (block.address + 4 * i) word now (reach.pc (inner_open _ isa tool max block i built lt)) reach.memory reach.here (built.words i lt ∙ ap Some (sym is))
 
-turn_of : (isa : Isa) (region : Area) (now : State) (word : ℕ) → Fetches isa region now word → turn now ≡ stepped now (step word now.cpu now.memory)
-turn_of isa region now word f = ap (λ r. turn_at r now) f.fetch
+action_of : (isa : Isa) (region : Area) (now : State) (word : ℕ) → Fetches isa region now word → action now ≡ stepped now (step word now.cpu now.memory)
+action_of isa region now word f = ap (λ r. action_at r now) f.fetch
 
 closes_of : (isa : Isa) (region : Area) (now : State) (word : ℕ) → Fetches isa region now word →
     closes now ≡ (ends_block (instruction now.cpu.isa word) || touched (step word now.cpu now.memory))
@@ -133,23 +145,28 @@ inside isa max words region i now unclosed more held =
 room_less : (isa : Isa) (max : ℕ) (words : List ℕ) (i : ℕ) → closed isa words (suc i) ≡ false → room isa max words (suc i) - 1 ≡ max - suc (suc i)
 room_less isa max words i unclosed = rw unclosed (omega arith)
 
-pub one_word : (isa : Isa) (max : ℕ) (region : Area) (block : Parts) (i word : ℕ) (now : State) (r : Run) →
-    IsBuilt (code_of region) isa max block → i < length block.words → (closed isa block.words i ≡ false → now.cpu.pc ≡ block.address + 4 * i) → Fetches isa region now word →
-    opened block.address i (sight max (room isa max block.words i) (place region i) (after now r))
-    ≡ begun block.address (sight max (if closes now then 0 else max - suc i) (Some region) r)
-one_word isa max region block zero word now r built lt at f =
-    let pc : now.cpu.pc ≡ block.address = omega (arith, at refl) in
-    sight-begins max 0 None now r refl
-    ∙ ap (λ a. begun a (sight max (if closes now then 0 else max - 1) (place_of now) r)) pc
-    ∙ ap (λ p. begun block.address (sight max (if closes now then 0 else max - 1) p r)) f.at
-one_word isa max region block (suc i) word now r built lt at f =
-    let unclosed : closed isa block.words (suc i) ≡ false = inner_open _ isa max block (suc i) built lt in
+pub one_word : (isa : Isa) (tool : Tool) (max : ℕ) (region : Area) (block : Parts) (i word : ℕ) (now : State) (r : Run) →
+    IsBuilt (code_of region) isa tool max block → i < length block.words → (closed isa block.words i ≡ false → now.cpu.pc ≡ block.address + 4 * i) → Fetches isa region now word →
+    marked_in max (room isa max block.words i) (place region i) (after now r)
+    ≡ with_marks ((now, is_first i) ∷ []) (marked_in max (if closes now then 0 else max - suc i) (Some region) r)
+one_word isa tool max region block zero word now r built lt at f =
+    marked-begins max 0 None now r refl
+    ∙ ap (λ p. with_marks ((now, true) ∷ []) (marked_in max (if closes now then 0 else max - 1) p r)) f.at
+one_word isa tool max region block (suc i) word now r built lt at f =
+    let unclosed : closed isa block.words (suc i) ≡ false = inner_open _ isa tool max block (suc i) built lt in
     let more : suc i < max = omega (arith, built.at_most, lt) in
     let in_it = inside isa max block.words region i now unclosed more f.held in
-    ap (begun block.address) (
-    sight-inside max (room isa max block.words (suc i)) (Some region) now r in_it
-    ∙ ap (λ k. sight max (if closes now then 0 else k) (place_of now) r) (room_less isa max block.words i unclosed)
-    ∙ ap (λ p. sight max (if closes now then 0 else max - suc (suc i)) p r) f.at)
+    marked-inside max (room isa max block.words (suc i)) (Some region) now r in_it
+    ∙ ap (λ k. with_marks ((now, false) ∷ []) (marked_in max (if closes now then 0 else k) (place_of now) r)) (room_less isa max block.words i unclosed)
+    ∙ ap (λ p. with_marks ((now, false) ∷ []) (marked_in max (if closes now then 0 else max - suc (suc i)) p r)) f.at
+
+-- the states before i words, and the one before the next
+marks-with : (words : List ℕ) (s now : State) (i : ℕ) (v : Marked) → now ≡ state_at words s i →
+    with_marks (marks_before words s i) (with_marks ((now, is_first i) ∷ []) v) ≡ with_marks (marks_before words s (suc i)) v
+marks-with words s now i v at =
+    with-more (marks_before words s i) ((now, is_first i) ∷ []) v
+    ∙ ap (λ x. with_marks (marks_before words s i ++ (x, is_first i) ∷ []) v) at
+    ∙ ap (λ marks. with_marks marks v) (sym (marks-more words s i))
 
 -- ---- the block goes on
 
@@ -164,13 +181,13 @@ or_true false = refl
 pc_next : (cpu : Cpu) (region : Area) → cpu.pc + 4 ≤ end_of region → end_of region ≤ 4294967295 → next cpu ≡ cpu.pc + 4
 pc_next cpu region a b = omega (arith, a, b)
 
-pub reaches-more : (isa : Isa) (max : ℕ) (region : Area) (block : Parts) (fuel : ℕ) (s : State) (i rest word : ℕ) (now : State) (c : Cpu) (m : Memory) →
-    IsBuilt (code_of region) isa max block → i < length block.words → word ≡ slice_index block.words i → (done.Next, c, m) ≡ step word now.cpu now.memory →
+pub reaches-more : (isa : Isa) (tool : Tool) (max : ℕ) (region : Area) (block : Parts) (fuel : ℕ) (s : State) (i rest word : ℕ) (now : State) (c : Cpu) (m : Memory) →
+    IsBuilt (code_of region) isa tool max block → i < length block.words → word ≡ slice_index block.words i → (done.Next, c, m) ≡ step word now.cpu now.memory →
     Reaches isa max region block fuel s i (suc rest) now → Reaches isa max region block fuel s (suc i) rest (record now { cpu = c; memory = m })
-reaches-more isa max region block fuel s i rest word now c m built lt is did reach =
-    let f = fetches isa max region block fuel s i (suc rest) word now built lt is reach in
+reaches-more isa tool max region block fuel s i rest word now c m built lt is did reach =
+    let f = fetches isa tool max region block fuel s i (suc rest) word now built lt is reach in
     let same_isa = reach.isa_kept in
-    let goes : turn now ≡ Goes (record now { cpu = c; memory = m }) = turn_of isa region now word f ∙ ap (stepped now) (sym did) in
+    let goes : action now ≡ Goes (record now { cpu = c; memory = m }) = action_of isa region now word f ∙ ap (stepped now) (sym did) in
     let keeps : Keeps now.cpu c now.memory m = subst (KeepsCode now.cpu now.memory) (sym did) (keeps-code (effect_of (instruction now.cpu.isa word) now.cpu now.memory) now.cpu now.memory) in
     let shut : closes now ≡ closed isa block.words (suc i) =
     closes_of isa region now word f ∙ ap (λ o. ends_block (instruction now.cpu.isa word) || touched o) (sym did) ∙ or_false (ends_block (instruction now.cpu.isa word))
@@ -180,46 +197,51 @@ reaches-more isa max region block fuel s i rest word now c m built lt is did rea
       pc = λ unclosed.
           let plain : ends_block (instruction now.cpu.isa word) ≡ false = ap (λ a. ends_block (instruction a word)) same_isa ∙ ap (λ x. ends_block (instruction isa x)) is ∙ unclosed in
           let on : c.pc ≡ next now.cpu = subst (GoesOn now.cpu) (sym did) (goes-on (instruction now.cpu.isa word) now.cpu now.memory plain) in
-          let here = reach.pc (inner_open _ isa max block i built lt) in
+          let here = reach.pc (inner_open _ isa tool max block i built lt) in
           let behind = pc_next now.cpu region f.ends fits in
           omega (arith, on, behind, here);
       isa_kept = keeps.isa ∙ same_isa;
       memory = keeps.memory reach.memory;
       here = keeps.code block.address ∙ reach.here;
+      same = λ a. keeps.code a ∙ reach.same a;
+      spent = omega (arith, reach.spent);
+      went = went-more block.words s i reach.went (done-through block.words s now i word done.Next c m reach.at is did);
+      at = state-through block.words s now i word done.Next c m reach.at is did;
       seen = λ w answers.
           reach.seen w answers
-          ∙ ap (λ r. opened block.address i (sight max (room isa max block.words i) (place region i) r)) (run-goes w rest answers now (record now { cpu = c; memory = m }) goes)
-          ∙ one_word isa max region block i word now (run w rest answers (record now { cpu = c; memory = m })) built lt reach.pc f
-          ∙ ap (λ b. begun block.address (sight max (if b then 0 else max - suc i) (Some region) (run w rest answers (record now { cpu = c; memory = m })))) shut;
+          ∙ ap (λ r. with_marks (marks_before block.words s i) (marked_in max (room isa max block.words i) (place region i) r)) (run-goes w rest answers now (record now { cpu = c; memory = m }) goes)
+          ∙ ap (with_marks (marks_before block.words s i)) (one_word isa tool max region block i word now (run w rest answers (record now { cpu = c; memory = m })) built lt reach.pc f)
+          ∙ ap (λ b. with_marks (marks_before block.words s i) (with_marks ((now, is_first i) ∷ []) (marked_in max (if b then 0 else max - suc i) (Some region) (run w rest answers (record now { cpu = c; memory = m }))))) shut
+          ∙ marks-with block.words s now i (marked_in max (if closed isa block.words (suc i) then 0 else max - suc i) (Some region) (run w rest answers (record now { cpu = c; memory = m }))) reach.at;
     }
 
 -- ---- the block is left
 
--- what is seen of a run that goes on behind a word that ends its block
-leaves-with : (isa : Isa) (max : ℕ) (region : Area) (block : Parts) (fuel : ℕ) (s : State) (i rest word : ℕ) (now : State) (w : Setting) (answers : List ℕ) (r : Run) →
-    IsBuilt (code_of region) isa max block → i < length block.words → word ≡ slice_index block.words i →
+-- what is told of a run that goes on behind a word that ends its block
+leaves-with : (isa : Isa) (tool : Tool) (max : ℕ) (region : Area) (block : Parts) (fuel : ℕ) (s : State) (i rest word : ℕ) (now : State) (w : Setting) (answers : List ℕ) (r : Run) →
+    IsBuilt (code_of region) isa tool max block → i < length block.words → word ≡ slice_index block.words i →
     Reaches isa max region block fuel s i (suc rest) now → run w (suc rest) answers now ≡ after now r → closes now ≡ true →
-    sight_of max (run w fuel answers s) ≡ begun block.address (sight_of max r)
-leaves-with isa max region block fuel s i rest word now w answers r built lt is reach goes shut =
-    let f = fetches isa max region block fuel s i (suc rest) word now built lt is reach in
+    marked max (run w fuel answers s) ≡ with_marks (marks_before block.words s (suc i)) (marked max r)
+leaves-with isa tool max region block fuel s i rest word now w answers r built lt is reach goes shut =
+    let f = fetches isa tool max region block fuel s i (suc rest) word now built lt is reach in
     reach.seen w answers
-    ∙ ap (λ x. opened block.address i (sight max (room isa max block.words i) (place region i) x)) goes
-    ∙ one_word isa max region block i word now r built lt reach.pc f
-    ∙ ap (λ b. begun block.address (sight max (if b then 0 else max - suc i) (Some region) r)) shut
-    ∙ ap (begun block.address) (sight-closed max (Some region) r)
+    ∙ ap (λ x. with_marks (marks_before block.words s i) (marked_in max (room isa max block.words i) (place region i) x)) goes
+    ∙ ap (with_marks (marks_before block.words s i)) (one_word isa tool max region block i word now r built lt reach.pc f)
+    ∙ ap (λ b. with_marks (marks_before block.words s i) (with_marks ((now, is_first i) ∷ []) (marked_in max (if b then 0 else max - suc i) (Some region) r))) shut
+    ∙ ap (λ v. with_marks (marks_before block.words s i) (with_marks ((now, is_first i) ∷ []) v)) (marked-closed max (Some region) r)
+    ∙ marks-with block.words s now i (marked max r) reach.at
 
 -- what ends the run there
-ends-with : (isa : Isa) (max : ℕ) (region : Area) (block : Parts) (fuel : ℕ) (s : State) (i rest word : ℕ) (now : State) (end : End) →
-    IsBuilt (code_of region) isa max block → i < length block.words → word ≡ slice_index block.words i →
-    Reaches isa max region block fuel s i (suc rest) now → turn now ≡ Ends end → EndsInBlock max block.address fuel s end now.io.output
-ends-with isa max region block fuel s i rest word now end built lt is reach stops =
-    let f = fetches isa max region block fuel s i (suc rest) word now built lt is reach in
-    record {
-      seen = λ w answers.
-          reach.seen w answers
-          ∙ ap (λ x. opened block.address i (sight max (room isa max block.words i) (place region i) x)) (run-ends w rest answers now end stops)
-          ∙ one_word isa max region block i word now (ended now end answers) built lt reach.pc f;
-    }
+ends-with : (isa : Isa) (tool : Tool) (max : ℕ) (region : Area) (block : Parts) (fuel : ℕ) (s : State) (i rest word : ℕ) (now : State) (w : Setting) (answers : List ℕ) (end : End) →
+    IsBuilt (code_of region) isa tool max block → i < length block.words → word ≡ slice_index block.words i →
+    Reaches isa max region block fuel s i (suc rest) now → action now ≡ Ends end →
+    marked max (run w fuel answers s) ≡ with_marks (marks_before block.words s (suc i)) (over end now.io.output answers)
+ends-with isa tool max region block fuel s i rest word now w answers end built lt is reach stops =
+    let f = fetches isa tool max region block fuel s i (suc rest) word now built lt is reach in
+    reach.seen w answers
+    ∙ ap (λ x. with_marks (marks_before block.words s i) (marked_in max (room isa max block.words i) (place region i) x)) (run-ends w rest answers now end stops)
+    ∙ ap (with_marks (marks_before block.words s i)) (one_word isa tool max region block i word now (ended now end answers) built lt reach.pc f)
+    ∙ marks-with block.words s now i (over end now.io.output answers) reach.at
 
 -- an instruction that transfers control, or calls, ends its block
 ends-taken : (word : ℕ) (cpu c : Cpu) (m m' : Memory) → (done.Taken, c, m') ≡ step word cpu m → ends_block (instruction cpu.isa word) ≡ true
@@ -262,56 +284,115 @@ same-step (effects.Fault kind) cpu m = (refl, refl)
 as-before : (now : State) (c : Cpu) (m : Memory) → (c ≡ now.cpu) × (m ≡ now.memory) → now ≡ record now { cpu = c; memory = m }
 as-before now c m same = rw (same.0, same.1) refl
 
--- a word that leaves its block
-pub reaches-out : (isa : Isa) (max : ℕ) (region : Area) (block : Parts) (fuel : ℕ) (s : State) (i rest word : ℕ) (now : State) (d : Done) (c : Cpu) (m : Memory) (left : Left) →
-    IsBuilt (code_of region) isa max block → i < length block.words → word ≡ slice_index block.words i → (d, c, m) ≡ step word now.cpu now.memory → left_by d ≡ Some left →
-    Reaches isa max region block fuel s i (suc rest) now → Does max block.address fuel s left rest (record now { cpu = c; memory = m })
-reaches-out isa max region block fuel s i rest word now done.Next c m left built lt is did how reach = absurd (cc)
-reaches-out isa max region block fuel s i rest word now done.Taken c m left built lt is did how reach =
-    let f = fetches isa max region block fuel s i (suc rest) word now built lt is reach in
+-- how the block is left, where its last word did not just go on
+left-out : (exits : List Exit) (more : Bool) (d : Done) (left : Left) → leaving d ≡ Some left → left ≡ left_by exits more d
+left-out exits more done.Next left h = absurd (cc)
+left-out exits more done.Taken left h = sym (same_Some (lefts.Exit 0) left h)
+left-out exits more done.Asked left h = sym (same_Some lefts.Asked left h)
+left-out exits more (done.Touched span) left h = sym (same_Some (lefts.Touched span) left h)
+left-out exits more (done.Fault kind) left h = sym (same_Some (lefts.Fault kind) left h)
+
+not-fuel : (d : Done) (left : Left) → leaving d ≡ Some left → left ≡ lefts.Fuel → ⊥
+not-fuel done.Next left h e = absurd (cc)
+not-fuel done.Taken left h e = cc
+not-fuel done.Asked left h e = cc
+not-fuel (done.Touched span) left h e = cc
+not-fuel (done.Fault kind) left h e = cc
+
+-- the words up to one that leaves the block
+words-out : (isa : Isa) (max : ℕ) (region : Area) (block : Parts) (fuel : ℕ) (s : State) (i rest word : ℕ) (now : State) (d : Done) (c : Cpu) (m : Memory) (left : Left) →
+    i < length block.words → word ≡ slice_index block.words i → (d, c, m) ≡ step word now.cpu now.memory → leaving d ≡ Some left →
+    Reaches isa max region block fuel s i (suc rest) now → DoesWords block (suc i) s left (record now { cpu = c; memory = m })
+words-out isa max region block fuel s i rest word now d c m left lt is did how reach = record {
+  some = omega arith;
+  at_most = omega (arith, lt);
+  went = λ k less. reach.went k (omega (arith, less));
+  left =
+      let back : suc i - 1 ≡ i = omega arith in
+      left-out block.exits (nat_lt (suc i) (length block.words)) d left how
+      ∙ ap (left_by block.exits (nat_lt (suc i) (length block.words))) (sym (done-through block.words s now i word d c m reach.at is did))
+      ∙ ap (λ k. left_by block.exits (nat_lt (suc i) (length block.words)) (done_at block.words s k)) (sym back);
+  reached = state-through block.words s now i word d c m reach.at is did;
+}
+
+-- what is told of the run behind a word that leaves its block
+seen-out : (isa : Isa) (tool : Tool) (max : ℕ) (region : Area) (block : Parts) (fuel : ℕ) (s : State) (i rest word : ℕ) (now : State) (d : Done) (c : Cpu) (m : Memory) (left : Left) →
+    IsBuilt (code_of region) isa tool max block → i < length block.words → word ≡ slice_index block.words i → (d, c, m) ≡ step word now.cpu now.memory → leaving d ≡ Some left →
+    Reaches isa max region block fuel s i (suc rest) now → (w : Setting) (answers : List ℕ) →
+    marked max (run w fuel answers s) ≡ with_marks (marks_before block.words s (suc i)) (behind max left rest (record now { cpu = c; memory = m }) w answers)
+seen-out isa tool max region block fuel s i rest word now done.Next c m left built lt is did how reach w answers = absurd (cc)
+seen-out isa tool max region block fuel s i rest word now done.Taken c m left built lt is did how reach w answers =
+    let f = fetches isa tool max region block fuel s i (suc rest) word now built lt is reach in
     let next : State = record now { cpu = c; memory = m } in
-    let goes : turn now ≡ Goes next = turn_of isa region now word f ∙ ap (stepped now) (sym did) in
+    let goes : action now ≡ Goes next = action_of isa region now word f ∙ ap (stepped now) (sym did) in
     let shut : closes now ≡ true = closes_of isa region now word f ∙ ap (λ b. b || touched (step word now.cpu now.memory)) (ends-taken word now.cpu c now.memory m did) in
-    subst (λ x. Does max block.address fuel s x rest next) (same_Some lefts.Exit left how) (record {
-      seen = λ w answers.
-          leaves-with isa max region block fuel s i rest word now w answers (run w rest answers next) built lt is reach (run-goes w rest answers now next goes) shut;
-    })
-reaches-out isa max region block fuel s i rest word now (done.Touched span) c m left built lt is did how reach =
-    let f = fetches isa max region block fuel s i (suc rest) word now built lt is reach in
+    leaves-with isa tool max region block fuel s i rest word now w answers (run w rest answers next) built lt is reach (run-goes w rest answers now next goes) shut
+    ∙ ap (λ x. with_marks (marks_before block.words s (suc i)) (behind max x rest next w answers)) (same_Some (lefts.Exit 0) left how)
+seen-out isa tool max region block fuel s i rest word now (done.Touched span) c m left built lt is did how reach w answers =
+    let f = fetches isa tool max region block fuel s i (suc rest) word now built lt is reach in
     let next : State = record now { cpu = c; memory = m } in
-    let goes : turn now ≡ Goes next = turn_of isa region now word f ∙ ap (stepped now) (sym did) in
+    let goes : action now ≡ Goes next = action_of isa region now word f ∙ ap (stepped now) (sym did) in
     let shut : closes now ≡ true = closes_of isa region now word f ∙ ap (λ o. ends_block (instruction now.cpu.isa word) || touched o) (sym did) ∙ or_true (ends_block (instruction now.cpu.isa word)) in
-    subst (λ x. Does max block.address fuel s x rest next) (same_Some (lefts.Touched span) left how) (record {
-      seen = λ w answers.
-          leaves-with isa max region block fuel s i rest word now w answers (run w rest answers next) built lt is reach (run-goes w rest answers now next goes) shut;
-    })
-reaches-out isa max region block fuel s i rest word now done.Asked c m left built lt is did how reach =
-    let f = fetches isa max region block fuel s i (suc rest) word now built lt is reach in
+    leaves-with isa tool max region block fuel s i rest word now w answers (run w rest answers next) built lt is reach (run-goes w rest answers now next goes) shut
+    ∙ ap (λ x. with_marks (marks_before block.words s (suc i)) (behind max x rest next w answers)) (same_Some (lefts.Touched span) left how)
+seen-out isa tool max region block fuel s i rest word now done.Asked c m left built lt is did how reach w answers =
+    let f = fetches isa tool max region block fuel s i (suc rest) word now built lt is reach in
     let next : State = record now { cpu = c; memory = m } in
-    let calls : turn now ≡ call now = turn_of isa region now word f ∙ ap (stepped now) (sym did) in
+    let calls : action now ≡ call now = action_of isa region now word f ∙ ap (stepped now) (sym did) in
     let shut : closes now ≡ true = closes_of isa region now word f ∙ ap (λ b. b || touched (step word now.cpu now.memory)) (ends-asked word now.cpu c now.memory m did) in
     let same : now ≡ next = as-before now c m (subst (IsSame now.cpu now.memory) (sym did) (same-step (effect_of (instruction now.cpu.isa word) now.cpu now.memory) now.cpu now.memory)) in
-    subst (λ x. Does max block.address fuel s x rest next) (same_Some lefts.Asked left how) (subst (λ x. AsksInBlock max block.address fuel s rest x) same (record {
-      seen = λ w answers.
-          leaves-with isa max region block fuel s i rest word now w answers (rest_of w rest now answers (call now)) built lt is reach (run-call w rest answers now calls) shut;
-    }))
-reaches-out isa max region block fuel s i rest word now (done.Fault kind) c m left built lt is did how reach =
-    let f = fetches isa max region block fuel s i (suc rest) word now built lt is reach in
+    leaves-with isa tool max region block fuel s i rest word now w answers (run_behind w rest now (transition_by w answers now (call now))) built lt is reach (run-call w rest answers now calls) shut
+    ∙ ap (λ x. with_marks (marks_before block.words s (suc i)) (behind max lefts.Asked rest x w answers)) same
+    ∙ ap (λ x. with_marks (marks_before block.words s (suc i)) (behind max x rest next w answers)) (same_Some lefts.Asked left how)
+seen-out isa tool max region block fuel s i rest word now (done.Fault kind) c m left built lt is did how reach w answers =
+    let f = fetches isa tool max region block fuel s i (suc rest) word now built lt is reach in
     let next : State = record now { cpu = c; memory = m } in
-    let stops : turn now ≡ Ends (ends.Fault kind now.cpu.pc) = turn_of isa region now word f ∙ ap (stepped now) (sym did) in
+    let stops : action now ≡ Ends (ends.Fault kind now.cpu.pc) = action_of isa region now word f ∙ ap (stepped now) (sym did) in
     let same : now ≡ next = as-before now c m (subst (IsSame now.cpu now.memory) (sym did) (same-step (effect_of (instruction now.cpu.isa word) now.cpu now.memory) now.cpu now.memory)) in
-    subst (λ x. Does max block.address fuel s x rest next) (same_Some (lefts.Fault kind) left how) (subst (λ x. EndsInBlock max block.address fuel s (ends.Fault kind x.cpu.pc) x.io.output) same
-    (ends-with isa max region block fuel s i rest word now (ends.Fault kind now.cpu.pc) built lt is reach stops))
+    ends-with isa tool max region block fuel s i rest word now w answers (ends.Fault kind now.cpu.pc) built lt is reach stops
+    ∙ ap (λ x. with_marks (marks_before block.words s (suc i)) (behind max (lefts.Fault kind) rest x w answers)) same
+    ∙ ap (λ x. with_marks (marks_before block.words s (suc i)) (behind max x rest next w answers)) (same_Some (lefts.Fault kind) left how)
+
+-- a word that leaves its block
+pub reaches-out : (isa : Isa) (tool : Tool) (max : ℕ) (region : Area) (block : Parts) (fuel : ℕ) (s : State) (i rest word : ℕ) (now : State) (d : Done) (c : Cpu) (m : Memory) (left : Left) →
+    IsBuilt (code_of region) isa tool max block → i < length block.words → word ≡ slice_index block.words i → (d, c, m) ≡ step word now.cpu now.memory → leaving d ≡ Some left →
+    Reaches isa max region block fuel s i (suc rest) now → RunsBlock max block (suc i) fuel s left rest (record now { cpu = c; memory = m })
+reaches-out isa tool max region block fuel s i rest word now d c m left built lt is did how reach = record {
+  spent = omega (arith, reach.spent);
+  ran_out = λ e. absurd (not-fuel d left how e);
+  words = words-out isa max region block fuel s i rest word now d c m left lt is did how reach;
+  seen = seen-out isa tool max region block fuel s i rest word now d c m left built lt is did how reach;
+}
+
+-- ---- all words that were done went on
+
+-- words that went on, and how the block is left behind them
+words-on : (isa : Isa) (max : ℕ) (region : Area) (block : Parts) (fuel : ℕ) (s : State) (i rest : ℕ) (now : State) (more : Bool) →
+    suc i ≤ length block.words → nat_lt (suc i) (length block.words) ≡ more → Reaches isa max region block fuel s (suc i) rest now →
+    DoesWords block (suc i) s (left_by block.exits more done.Next) now
+words-on isa max region block fuel s i rest now more fits is reach = record {
+  some = omega arith;
+  at_most = fits;
+  went = λ k less. reach.went k (omega (arith, less));
+  left =
+      let back : suc i - 1 ≡ i = omega arith in
+      ap (λ b. left_by block.exits b done.Next) (sym is)
+      ∙ ap (left_by block.exits (nat_lt (suc i) (length block.words))) (sym (reach.went i (omega arith)))
+      ∙ ap (λ k. left_by block.exits (nat_lt (suc i) (length block.words)) (done_at block.words s k)) (sym back);
+  reached = reach.at;
+}
 
 -- there is no fuel for a further word
 pub reaches-spent : (isa : Isa) (max : ℕ) (region : Area) (block : Parts) (fuel : ℕ) (s : State) (i rest : ℕ) (now : State) →
-    0 < i → rest ≡ 0 → Reaches isa max region block fuel s i rest now → Does max block.address fuel s lefts.Fuel rest now
-reaches-spent isa max region block fuel s zero rest now some spent reach = absurd (omega arith)
-reaches-spent isa max region block fuel s (suc i) zero now some spent reach =
-    (record { seen = λ w answers. reach.seen w answers ∙ ap (begun block.address) (sight-spent max (room isa max block.words (suc i)) (Some region) w answers now) }, refl)
-reaches-spent isa max region block fuel s (suc i) (suc rest) now some spent reach = absurd (omega arith)
-
--- ---- all words are done
+    i < length block.words → 0 < i → rest ≡ 0 → Reaches isa max region block fuel s i rest now → RunsBlock max block i fuel s lefts.Fuel rest now
+reaches-spent isa max region block fuel s zero rest now lt some spent reach = absurd (omega arith)
+reaches-spent isa max region block fuel s (suc i) (suc rest) now lt some spent reach = absurd (omega arith)
+reaches-spent isa max region block fuel s (suc i) zero now lt some spent reach = record {
+  spent = reach.spent;
+  ran_out = λ e. refl;
+  words = let more : nat_lt (suc i) (length block.words) ≡ true = grind (arith, nat_tests) in words-on isa max region block fuel s i 0 now true (omega (arith, lt)) more reach;
+  seen = λ w answers. reach.seen w answers ∙ ap (with_marks (marks_before block.words s (suc i))) (marked-spent max (room isa max block.words (suc i)) (Some region) w answers now);
+}
 
 same_either : (b : Bool) (n : ℕ) → n ≡ 0 → (if b then 0 else n) ≡ 0
 same_either true n e = refl
@@ -326,55 +407,64 @@ leaves-there region x now at lacking =
     let lacks : holds now.cpu.pc 4 region ≡ false = rw at (is_lacking (has_word (code_of region) x) _ lacking) in
     rw lacks refl
 
-done-by : (isa : Isa) (max : ℕ) (region : Area) (block : Parts) (fuel : ℕ) (s : State) (i rest : ℕ) (now : State) →
-    room isa max block.words (suc i) ≡ 0 → Reaches isa max region block fuel s (suc i) rest now → DoesBlock max block.address fuel s rest now
-done-by isa max region block fuel s i rest now full reach = record {
-  seen = λ w answers.
-      reach.seen w answers
-      ∙ ap (λ k. begun block.address (sight max k (Some region) (run w rest answers now))) full
-      ∙ ap (begun block.address) (sight-closed max (Some region) (run w rest answers now));
-}
+full-free : (isa : Isa) (max : ℕ) (region : Area) (words : List ℕ) (i rest : ℕ) (now : State) → room isa max words (suc i) ≡ 0 → (w : Setting) (answers : List ℕ) →
+    marked_in max (room isa max words (suc i)) (Some region) (run w rest answers now) ≡ marked max (run w rest answers now)
+full-free isa max region words i rest now full w answers = ap (λ k. marked_in max k (Some region) (run w rest answers now)) full ∙ marked-closed max (Some region) (run w rest answers now)
 
-pub reaches-done : (isa : Isa) (max : ℕ) (region : Area) (block : Parts) (fuel : ℕ) (s : State) (i rest : ℕ) (now : State) →
-    IsBuilt (code_of region) isa max block → i ≡ length block.words → Reaches isa max region block fuel s i rest now → Does max block.address fuel s lefts.Exit rest now
-reaches-done isa max region block fuel s zero rest now built all reach = absurd (omega (arith, built.not_empty))
-reaches-done isa max region block fuel s (suc i) rest now built all reach =
+-- the next block begins behind the last word
+free-behind : (isa : Isa) (tool : Tool) (max : ℕ) (region : Area) (block : Parts) (fuel : ℕ) (s : State) (i rest : ℕ) (now : State) → IsBuilt (code_of region) isa tool max block → suc i ≡ length block.words →
+    Reaches isa max region block fuel s (suc i) rest now → (w : Setting) (answers : List ℕ) →
+    marked_in max (room isa max block.words (suc i)) (Some region) (run w rest answers now) ≡ marked max (run w rest answers now)
+free-behind isa tool max region block fuel s i rest now built all reach =
     let final : slice_index block.words i ≡ last block.words = ap (slice_index block.words) (omega arith) in
     ⊎_elim
-    (λ shut. done-by isa max region block fuel s i rest now (room_none isa max block.words i (inl (ap (λ x. ends_block (instruction isa x)) final ∙ shut))) reach)
+    (λ shut. full-free isa max region block.words i rest now (room_none isa max block.words i (inl (ap (λ x. ends_block (instruction isa x)) final ∙ shut))))
     (λ other. ⊎_elim
-    (λ full. done-by isa max region block fuel s i rest now (room_none isa max block.words i (inr (all ∙ full))) reach)
+    (λ full. full-free isa max region block.words i rest now (room_none isa max block.words i (inr (all ∙ full))))
     (λ missing. ⊎_elim
-    (λ shut. done-by isa max region block fuel s i rest now (room_none isa max block.words i (inl shut)) reach)
+    (λ shut. full-free isa max region block.words i rest now (room_none isa max block.words i (inl shut)))
     (λ unclosed.
     let out = leaves-there region (block.address + 4 * suc i) now (reach.pc unclosed) (ap (λ n. word_at (code_of region) (block.address + 4 * n)) all ∙ missing) in
-    record { seen = λ w answers. reach.seen w answers ∙ ap (begun block.address) (sight-left max (room isa max block.words (suc i)) (Some region) w rest answers now out) })
+    λ w answers. marked-left max (room isa max block.words (suc i)) (Some region) w rest answers now out)
     (cases_Bool (closed isa block.words (suc i))))
     other)
     built.stopped
 
+pub reaches-done : (isa : Isa) (tool : Tool) (max : ℕ) (region : Area) (block : Parts) (fuel : ℕ) (s : State) (i rest : ℕ) (now : State) →
+    IsBuilt (code_of region) isa tool max block → i ≡ length block.words → Reaches isa max region block fuel s i rest now →
+    RunsBlock max block i fuel s (lefts.Exit (last_exit block.exits)) rest now
+reaches-done isa tool max region block fuel s zero rest now built all reach = absurd (omega (arith, built.not_empty))
+reaches-done isa tool max region block fuel s (suc i) rest now built all reach = record {
+  spent = reach.spent;
+  ran_out = λ e. absurd (cc);
+  words = let more : nat_lt (suc i) (length block.words) ≡ false = grind (arith, nat_tests) in words-on isa max region block fuel s i rest now false (omega (arith, all)) more reach;
+  seen = λ w answers. reach.seen w answers ∙ ap (with_marks (marks_before block.words s (suc i))) (free-behind isa tool max region block fuel s i rest now built all reach w answers);
+}
+
 -- ---- in the words of the loop
 
-pub loop-out : (isa : Isa) (max : ℕ) (region : Area) (block : Parts) (fuel : ℕ) (s : State) (i rest word : ℕ) (now : State) (d : Done) (c : Cpu) (m : Memory) (left : Left) →
-    0 < rest → IsBuilt (code_of region) isa max block → i < length block.words → word ≡ slice_index block.words i → (d, c, m) ≡ step word now.cpu now.memory → left_by d ≡ Some left →
-    Reaches isa max region block fuel s i rest now → Does max block.address fuel s left (rest - 1) (record now { cpu = c; memory = m })
-loop-out isa max region block fuel s i zero word now d c m left some built lt is did how reach = absurd (omega arith)
-loop-out isa max region block fuel s i (suc rest) word now d c m left some built lt is did how reach =
+pub loop-out : (isa : Isa) (tool : Tool) (max : ℕ) (region : Area) (block : Parts) (fuel : ℕ) (s : State) (i rest word : ℕ) (now : State) (d : Done) (c : Cpu) (m : Memory) (left : Left) →
+    0 < rest → IsBuilt (code_of region) isa tool max block → i < length block.words → word ≡ slice_index block.words i → (d, c, m) ≡ step word now.cpu now.memory → leaving d ≡ Some left →
+    Reaches isa max region block fuel s i rest now → RunsBlock max block (i + 1) fuel s left (rest - 1) (record now { cpu = c; memory = m })
+loop-out isa tool max region block fuel s i zero word now d c m left some built lt is did how reach = absurd (omega arith)
+loop-out isa tool max region block fuel s i (suc rest) word now d c m left some built lt is did how reach =
     let less : rest ≡ suc rest - 1 = omega arith in
-    subst (λ n. Does max block.address fuel s left n (record now { cpu = c; memory = m })) less
-    (reaches-out isa max region block fuel s i rest word now d c m left built lt is did how reach)
+    let more : suc i ≡ i + 1 = omega arith in
+    subst (λ n. RunsBlock max block (i + 1) fuel s left n (record now { cpu = c; memory = m })) less
+    (subst (λ k. RunsBlock max block k fuel s left rest (record now { cpu = c; memory = m })) more
+    (reaches-out isa tool max region block fuel s i rest word now d c m left built lt is did how reach))
 
-pub loop-more : (isa : Isa) (max : ℕ) (region : Area) (block : Parts) (fuel : ℕ) (s : State) (i rest word : ℕ) (now : State) (d : Done) (c : Cpu) (m : Memory) →
-    0 < rest → IsBuilt (code_of region) isa max block → i < length block.words → word ≡ slice_index block.words i → (d, c, m) ≡ step word now.cpu now.memory → left_by d ≡ None →
+pub loop-more : (isa : Isa) (tool : Tool) (max : ℕ) (region : Area) (block : Parts) (fuel : ℕ) (s : State) (i rest word : ℕ) (now : State) (d : Done) (c : Cpu) (m : Memory) →
+    0 < rest → IsBuilt (code_of region) isa tool max block → i < length block.words → word ≡ slice_index block.words i → (d, c, m) ≡ step word now.cpu now.memory → leaving d ≡ None →
     Reaches isa max region block fuel s i rest now → Reaches isa max region block fuel s (i + 1) (rest - 1) (record now { cpu = c; memory = m })
-loop-more isa max region block fuel s i zero word now d c m some built lt is did how reach = absurd (omega arith)
-loop-more isa max region block fuel s i (suc rest) word now done.Next c m some built lt is did how reach =
+loop-more isa tool max region block fuel s i zero word now d c m some built lt is did how reach = absurd (omega arith)
+loop-more isa tool max region block fuel s i (suc rest) word now done.Next c m some built lt is did how reach =
     let less : rest ≡ suc rest - 1 = omega arith in
     let more : suc i ≡ i + 1 = omega arith in
     subst (λ n. Reaches isa max region block fuel s (i + 1) n (record now { cpu = c; memory = m })) less
     (subst (λ k. Reaches isa max region block fuel s k rest (record now { cpu = c; memory = m })) more
-    (reaches-more isa max region block fuel s i rest word now c m built lt is did reach))
-loop-more isa max region block fuel s i (suc rest) word now done.Taken c m some built lt is did how reach = absurd (cc)
-loop-more isa max region block fuel s i (suc rest) word now done.Asked c m some built lt is did how reach = absurd (cc)
-loop-more isa max region block fuel s i (suc rest) word now (done.Touched span) c m some built lt is did how reach = absurd (cc)
-loop-more isa max region block fuel s i (suc rest) word now (done.Fault kind) c m some built lt is did how reach = absurd (cc)
+    (reaches-more isa tool max region block fuel s i rest word now c m built lt is did reach))
+loop-more isa tool max region block fuel s i (suc rest) word now done.Taken c m some built lt is did how reach = absurd (cc)
+loop-more isa tool max region block fuel s i (suc rest) word now done.Asked c m some built lt is did how reach = absurd (cc)
+loop-more isa tool max region block fuel s i (suc rest) word now (done.Touched span) c m some built lt is did how reach = absurd (cc)
+loop-more isa tool max region block fuel s i (suc rest) word now (done.Fault kind) c m some built lt is did how reach = absurd (cc)

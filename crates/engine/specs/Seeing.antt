@@ -1,5 +1,5 @@
 -- What the probes of a block see, and count.
-use Rattle.std.specs.Prelude.{◌≡◌, ℕ, ◌<◌, ◌==◌, List, [], ◌∷◌, length, option_map, Option, Some, None}
+use Rattle.std.specs.Prelude.{◌≡◌, ℕ, ◌<◌, List, [], ◌∷◌, length, option_map, Option, Some, None}
 use Rattle.std.specs.Option.{option_to_list}
 use Rattle.std.specs.List.Contains.{Contains}
 use Rattle.std.specs.FinMap as fin
@@ -17,7 +17,7 @@ use Rattle.plain_machine.specs.Machine.{State}
 use Rattle.plain_machine.specs.Events.{access_event, seen, events as events_of}
 use Rattle.report.specs.Rows.{Rows}
 use Rattle.fragment.specs.Parts.{Parts}
-use Rattle.engine.specs.Words.{state_at, done_at, marks_before}
+use Rattle.engine.specs.Words.{state_at, done_at, is_first, marks_before}
 
 -- what a probe of this kind sees before an instruction
 abbrev pub seen_by : ProbeKind → Cpu → Ins → Option Event
@@ -52,4 +52,4 @@ pub record WantsRow (block : Parts) (n : ℕ) (s now : State) (old new : Rows) :
   pub went : (i : ℕ) → i < n → done_at block.words s i ≡ done.Next
   pub reached : now ≡ state_at block.words s n
   pub counted : new ≡ with_events (events_of old.tool (marks_before block.words s n)) old
-  pub lacks : LacksRow (seen old.tool (state_at block.words s n, n == 0)) new.counts
+  pub lacks : LacksRow (seen old.tool (state_at block.words s n, is_first n)) new.counts

@@ -1,5 +1,5 @@
 -- Words that are done one after the other, by position.
-use Rattle.std.specs.Prelude.{◌≡◌, ℕ, zero, suc, ◌+◌, ◌-◌, ◌<◌, ◌≤◌, ◌==◌, nat_lt, Bool, if◌then◌else◌, List, [], ◌∷◌, ◌++◌, length, slice_index}
+use Rattle.std.specs.Prelude.{◌≡◌, ℕ, zero, suc, ◌+◌, ◌-◌, ◌<◌, ◌≤◌, ◌==◌, nat_lt, Bool, true, false, if◌then◌else◌, List, [], ◌∷◌, ◌++◌, length, slice_index, Option, Some, None}
 use Rattle.plain_machine.specs.declared.cpu.Done.{Done}
 use Rattle.plain_machine.specs.declared.cpu.Done.TheVariants as done
 use Rattle.plain_machine.specs.Step.{Outcome, step}
@@ -25,14 +25,26 @@ state_at words s (suc i) = state_after (state_at words s i) (slice_index words i
 abbrev pub done_at : List ℕ → State → ℕ → Done
 done_at words s i = (outcome_in (state_at words s i) (slice_index words i)).0
 
+abbrev pub is_first : ℕ → Bool
+is_first zero = true
+is_first (suc i) = false
+
 -- the states before the first n words, the first of which alone begins a block
 unfoldable pub marks_before : List ℕ → State → ℕ → List (State × Bool)
 marks_before words s zero = []
-marks_before words s (suc n) = marks_before words s n ++ (state_at words s n, n == 0) ∷ []
+marks_before words s (suc n) = marks_before words s n ++ (state_at words s n, is_first n) ∷ []
 
 -- the exit behind the last word: of a branch, whose comparison did not hold, the second
 abbrev pub last_exit : List Exit → ℕ
 last_exit exits = if length exits == 2 then 1 else 0
+
+-- how a word leaves its block, where it does not just go on to the next
+abbrev pub leaving : Done → Option Left
+leaving done.Next = None
+leaving done.Taken = Some (left.Exit 0)
+leaving done.Asked = Some left.Asked
+leaving (done.Touched span) = Some (left.Touched span)
+leaving (done.Fault kind) = Some (left.Fault kind)
 
 -- how a block is left by what the last word done did, where further ones stand behind it or not
 abbrev pub left_by : List Exit → Bool → Done → Left

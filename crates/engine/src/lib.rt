@@ -1,11 +1,11 @@
-//! The engine: it runs a block as the plain machine runs it, up to the next block.
+//! The engine: it runs a block as the plain machine runs it, up to the next block, and counts what its probes see.
 //!
-//! It stands on `rv_exec` and `fragment`. The layer above uses: a block that is fresh in its region is the plain
-//! machine's instructions up to the next begin, end, call or want of fuel.
+//! It stands on `rv_exec`, `fragment` and `report`. The layer above uses: the states that a block does are the plain
+//! machine's, of which the first alone begins a block, and the run goes on from the state now; the report has just the
+//! events of these states more.
 #![tactic(auto)]
 
 mod block;
-#[cfg(test)]
-mod tests;
+mod probing;
 
 pub use block::{Left, run_block};
