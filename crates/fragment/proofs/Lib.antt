@@ -1,1 +1,5 @@
-pub mod UniqueBlocks
+pub mod Least
+pub mod Values
+pub mod Alike
+pub mod Places
+pub mod Testing
