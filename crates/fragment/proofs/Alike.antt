@@ -1,5 +1,5 @@
 -- Blocks in codes that are alike.
-use Rattle.std.proofs.Common.{◌≡◌, ◌↔◌, ℕ, ◌+◌, ◌-◌, ◌*◌, ◌<◌, ◌≤◌, ◌⊎◌, Bool, true, false, List, ◌++◌, length, get_or, take, drop, Some, None, refl, sym, ◌∙◌, ap, arith, inl, inr, length-append}
+use Rattle.std.proofs.Common.{◌≡◌, ℕ, ◌+◌, ◌-◌, ◌*◌, ◌<◌, ◌≤◌, ◌⊎◌, true, false, List, ◌++◌, length, get_or, take, drop, Some, None, refl, sym, ◌∙◌, ap, arith, inl, inr, length-append}
 use Rattle.std.proofs.lemmas.Bool.{cases_Bool}
 use Rattle.std.proofs.lemmas.Bool.Decides.{nat_tests}
 use Rattle.std.proofs.lemmas.List.{ext_get_or, get_or-take, get_or-drop, get_or_append_left, get_or-append_right, length-take, length-drop}
@@ -8,8 +8,8 @@ use Rattle.rv_decode.specs.declared.ins.Isa.{Isa}
 use Rattle.plain_machine.specs.Memory.{number_of}
 use Rattle.probe_tools.specs.declared.tool.Tool.{Tool}
 use Rattle.fragment.specs.Parts.{Parts}
-use Rattle.fragment.specs.Build.{IsBuilt, IsFresh, word_at, has_word, built}
-use Rattle.fragment.specs.Laws.{AreAlike, Congruence, Locality, IsBeside, byte_in, overwritten}
+use Rattle.fragment.specs.Build.{IsBuilt, IsFresh, word_at, has_word}
+use Rattle.fragment.specs.Laws.{AreAlike, Congruence, Locality, overwritten}
 use Rattle.fragment.proofs.Values.{has_of, value-built, built-value}
 
 -- the same bytes in a row

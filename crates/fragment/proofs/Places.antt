@@ -1,8 +1,8 @@
 -- The probes of a block, place by place.
-use Rattle.std.proofs.Common.{◌≡◌, ℕ, zero, suc, ◌+◌, ◌-◌, ◌<◌, ◌≤◌, List, [], ◌∷◌, ◌++◌, length, get_or, Option, Some, None, refl, sym, ◌∙◌, ap, subst, arith, append_assoc, length-append}
+use Rattle.std.proofs.Common.{◌≡◌, ℕ, zero, suc, ◌+◌, ◌-◌, ◌<◌, ◌≤◌, List, [], ◌∷◌, ◌++◌, length, get_or, take, Option, Some, None, refl, sym, ◌∙◌, ap, subst, arith, append_assoc, length-append}
 use Rattle.std.specs.List.{flat_map, range_with_len}
 use Rattle.std.proofs.lemmas.List.Concat.{flat_map-append}
-use Rattle.std.proofs.lemmas.List.{get_or-append_right}
+use Rattle.std.proofs.lemmas.List.{get_or-append_right, length-take-le, take_more}
 use Rattle.std.proofs.Math.Seq.{get_or-append_seam}
 use Rattle.rv_decode.specs.declared.ins.Isa.{Isa}
 use Rattle.probe_tools.specs.declared.tool.Tool.{Tool}
@@ -98,3 +98,21 @@ no_probe tool isa words i d h is more =
     let far : i + 1 ≤ (get_or behind.rest 0 d).place = behind.later.each 0 d some in
     let same : (get_or (probes_of tool isa words) (length front) d).place ≡ (get_or behind.rest 0 d).place = ap (λ p. p.place) e in
     omega arith
+
+-- ---- a list of probes, tested place by place
+
+pub front_more : (tool : Tool) (isa : Isa) (words : List ℕ) (i : ℕ) (kind : ProbeKind) (probes : List Probe) (next : ℕ) (d : Probe) → probe_at tool isa words i ≡ Some kind →
+    next < length probes → get_or probes next d ≡ record { place = i; kind = kind } → take next probes ≡ probes_before tool isa words i → take (next + 1) probes ≡ probes_before tool isa words (i + 1)
+front_more tool isa words i kind probes next d is h here front =
+    take_more probes next d h ∙ ap (λ ps. ps ++ get_or probes next d ∷ []) front ∙ ap (λ p. probes_before tool isa words i ++ p ∷ []) here
+    ∙ sym (before-more tool isa words i ∙ ap (λ o. probes_before tool isa words i ++ placed i o) is)
+
+pub front_stays : (tool : Tool) (isa : Isa) (words : List ℕ) (i : ℕ) → probe_at tool isa words i ≡ None → probes_before tool isa words i ≡ probes_before tool isa words (i + 1)
+front_stays tool isa words i is = sym (before-more tool isa words i ∙ ap (λ o. probes_before tool isa words i ++ placed i o) is ∙ append_none (probes_before tool isa words i))
+
+pub stands_there : (tool : Tool) (isa : Isa) (words : List ℕ) (i : ℕ) (kind : ProbeKind) (probes : List Probe) (next : ℕ) → probe_at tool isa words i ≡ Some kind → i < length words →
+    next ≤ length probes → take next probes ≡ probes_before tool isa words i → probes ≡ probes_of tool isa words → IsNext probes next (record { place = i; kind = kind })
+stands_there tool isa words i kind probes next is h within front all =
+    let size : length (probes_before tool isa words i) ≡ next = ap length (sym front) ∙ length-take-le next probes within in
+    let probe : Probe = record { place = i; kind = kind } in
+    subst (λ ps. IsNext ps next probe) (sym all) (subst (λ k. IsNext (probes_of tool isa words) k probe) size (next_probe tool isa words i kind h is))

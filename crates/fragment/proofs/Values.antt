@@ -1,6 +1,5 @@
 -- The block that is built, as a value and as a relation.
-use Rattle.std.proofs.Common.{◌≡◌, ◌↔◌, ℕ, zero, suc, ◌+◌, ◌-◌, ◌*◌, ◌%◌, ◌<◌, ◌≤◌, ◌==◌, ◌⊎◌, ◌||◌, ◌&&◌, not, Bool, true, false, List, length, map, get_or, Some, None, Option, refl, sym, ◌∙◌, ap, subst, arith, inl, inr}
-use Rattle.std.specs.List.{range_with_len}
+use Rattle.std.proofs.Common.{◌≡◌, ℕ, zero, suc, ◌+◌, ◌-◌, ◌*◌, ◌%◌, ◌<◌, ◌≤◌, ◌==◌, ◌⊎◌, ◌||◌, not, Bool, true, false, length, get_or, Some, None, refl, sym, ◌∙◌, ap, subst, arith, inl, inr}
 use Rattle.std.proofs.lemmas.Bool.{cases_Bool}
 use Rattle.std.proofs.lemmas.Bool.Decides.{nat_tests}
 use Rattle.std.proofs.lemmas.List.{ext_get_or}
@@ -13,8 +12,7 @@ use Rattle.plain_machine.specs.Cut.{ends_block}
 use Rattle.probe_tools.specs.declared.tool.Tool.{Tool}
 use Rattle.fragment.specs.Parts.{Parts}
 use Rattle.fragment.specs.Exits.{exits_of}
-use Rattle.fragment.specs.Probing.{probes_of}
-use Rattle.fragment.specs.Build.{word_at, word_in, has_word, words_at, last, may_end, least, size_at, can_build, block_of, built, IsBuilt, IsFresh, CannotBuild}
+use Rattle.fragment.specs.Build.{word_at, word_in, has_word, words_at, last, may_end, size_at, block_of, built, IsBuilt}
 use Rattle.fragment.specs.Laws.{BuiltIsBuilt, NoneIsBuilt, BlocksAreUnique, OwnSizeIsEnough}
 use Rattle.fragment.proofs.Least.{least_is, least_low, least_high, least_fails, least_ends}
 
@@ -191,9 +189,10 @@ value-built code a isa tool max block some is = elim (cases_Bool (a % 4 == 0)) [
 -- ---- the laws
 
 pub built-value : BuiltIsBuilt
-built-value code a isa tool max block some =
-    (value-built code a isa tool max block some,
-    λ (is, at). subst (λ x. built code x isa tool max ≡ Some block) at (is_value code isa tool max block is some))
+built-value code a isa tool max block some = (
+  value-built code a isa tool max block some,
+  λ (is, at). subst (λ x. built code x isa tool max ≡ Some block) at (is_value code isa tool max block is some),
+)
 
 pub none-built : NoneIsBuilt
 unfolding built
@@ -209,7 +208,8 @@ none-built code a isa tool max = (
     | inl odd ↦ let failed : (a % 4 == 0) ≡ false = grind (arith, nat_tests) in rw failed refl
     | inr none ↦ let lacks : has_word code a ≡ false = lacks_of code a none in
         elim (cases_Bool (a % 4 == 0)) [ inl even ↦ rw (even, lacks) refl | inr failed ↦ rw failed refl ]
-  ])
+  ],
+)
 
 pub blocks_unique : BlocksAreUnique
 blocks_unique code isa tool max a b some of_a of_b at =

@@ -34,7 +34,11 @@ pub fn class_of(ins: &Ins) -> Class
 fn jump_class(rd: u8) -> Class
     ensures { result ≡ jump_class rd }
 {
-    if rd == 1 || rd == 5 { Class::Call } else { Class::Jump }
+    if rd == 1 || rd == 5 {
+        Class::Call
+    } else {
+        Class::Jump
+    }
 }
 
 /// Whether a block ends with the instruction wherever it has it.

@@ -81,12 +81,7 @@ impl Fragment {
     }
 
     /// The fragment with these parts, which are kept. It takes no memory.
-    pub fn from_parts(
-        addr: u32,
-        words: Vec<u32>,
-        probes: Vec<Probe>,
-        exits: Vec<Exit>,
-    ) -> Fragment
+    pub fn from_parts(addr: u32, words: Vec<u32>, probes: Vec<Probe>, exits: Vec<Exit>) -> Fragment
         ensures { result ≡ record { address = addr; words = words.items; probes = probes.items; exits = exits.items } }
     {
         Fragment {

@@ -20,7 +20,16 @@ pub fn same_as_built(f: &Fragment, code: CodeView<'_>, isa: Isa, tool: Tool, max
     requires most { max ≤ 64 }
     ensures { IsTrue result ↔ IsFresh (shown code.entry) isa tool max f.now }
 {
-    are_built(f.addr(), f.words(), f.probes(), f.exits(), code, isa, tool, max)
+    are_built(
+        f.addr(),
+        f.words(),
+        f.probes(),
+        f.exits(),
+        code,
+        isa,
+        tool,
+        max,
+    )
 }
 
 // Whether these are the parts of the block that is built at an address.

@@ -1,4 +1,4 @@
-use Rattle.std.proofs.Common.{◌≡◌, ℕ, ◌+◌, ◌-◌, ◌*◌, ◌<◌, true, false, refl, sym, ◌∙◌, arith}
+use Rattle.std.proofs.Common.{◌≡◌, ◌+◌, ◌-◌, true, false, refl, sym, ◌∙◌, arith}
 use Rattle.plain_machine.specs.Cut.{ends_block}
 use Rattle.rv_decode.specs.Table.{instruction}
 use Rattle.fragment.specs.Build.{has_word, may_end, size_at, word_in}
@@ -15,7 +15,7 @@ pub loop-count-preserved : goal.loop-count-preserved
 loop-count-preserved c =
     let inv = c.loop-count.invariant in
     let unended : ends_block (instruction c.args.isa (word_in (shown c.args.code) c.loop-count.place)) ≡ false = cc in
-    let more : has_word (shown c.args.code) (c.loop-count.place + 4) ≡ true = ? in
+    let more : has_word (shown c.args.code) (c.loop-count.place + 4) ≡ true = sym c.has_word.ensures ∙ c.if-not-has_word.false in
     let failed : may_end (shown c.args.code) c.args.addr c.args.isa c.args.max c.loop-count.count ≡ false =
     goes_on (shown c.args.code) c.args.addr c.args.isa c.args.max c.loop-count.count c.loop-count.place inv.place (omega arith) (omega arith) unended more in
     record {
