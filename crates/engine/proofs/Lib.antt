@@ -4,3 +4,6 @@ mod Stored
 mod Starts
 mod Path
 mod Reach
+mod Probes
+mod Counting
+mod Loop

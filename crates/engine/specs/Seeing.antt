@@ -1,10 +1,9 @@
 -- What the probes of a block see, and count.
 use Rattle.std.specs.Prelude.{◌≡◌, ℕ, ◌<◌, List, [], ◌∷◌, length, option_map, Option, Some, None}
 use Rattle.std.specs.Option.{option_to_list}
-use Rattle.std.specs.List.Contains.{Contains}
+use Rattle.std.specs.List.{Contains}
 use Rattle.std.specs.FinMap as fin
 use Rattle.rv_decode.specs.declared.ins.Ins.{Ins}
-use Rattle.rv_decode.specs.Table.{instruction}
 use Rattle.probe_tools.specs.declared.event.Event.{Event}
 use Rattle.probe_tools.specs.declared.event.Event.TheVariants as events
 use Rattle.probe_tools.specs.declared.probe.ProbeKind.{ProbeKind}
@@ -19,6 +18,11 @@ use Rattle.report.specs.Rows.{Rows}
 use Rattle.fragment.specs.Parts.{Parts}
 use Rattle.engine.specs.Words.{state_at, done_at, is_first, marks_before}
 
+-- how many probes stand at a place
+abbrev pub probe_count : Option ProbeKind → ℕ
+probe_count None = 0
+probe_count (Some kind) = 1
+
 -- what a probe of this kind sees before an instruction
 abbrev pub seen_by : ProbeKind → Cpu → Ins → Option Event
 seen_by kinds.Block cpu i = Some (events.Block cpu.pc)
@@ -26,10 +30,10 @@ seen_by kinds.Call cpu i = option_map (events.Call cpu.pc) (target_of i cpu)
 seen_by kinds.Load cpu i = option_map (access_event cpu.pc) (access_of i cpu)
 seen_by kinds.Store cpu i = option_map (access_event cpu.pc) (access_of i cpu)
 
--- what is seen before a word, where a probe may stand
-abbrev pub seen_with : Option ProbeKind → Cpu → ℕ → List Event
-seen_with None cpu word = []
-seen_with (Some kind) cpu word = option_to_list (seen_by kind cpu (instruction cpu.isa word))
+-- what is seen before an instruction, where a probe may stand
+abbrev pub seen_with : Option ProbeKind → Cpu → Ins → List Event
+seen_with None cpu i = []
+seen_with (Some kind) cpu i = option_to_list (seen_by kind cpu i)
 
 -- counts that have these events more
 abbrev pub counting : List Event → Counts → Counts
@@ -42,7 +46,7 @@ with_events es r = record r { counts = counting es r.counts }
 -- one of the events has no row
 pub record LacksRow (es : List Event) (counts : Counts) : Type 0 where
   pub event : Event
-  pub comes : Contains event es
+  pub comes : Contains es event
   pub no_row : fin.get counts (key_of event) ≡ None
 
 -- From state s the first n words of the block were done, and each went on to the next. Before word number n an event

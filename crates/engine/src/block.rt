@@ -8,7 +8,7 @@ ghost use Rattle.engine.specs.Seeing.{WantsRow, with_events};
 ghost use Rattle.engine.specs.Standing.{CodeAfter, SameRegions, StandsIn, state};
 ghost use Rattle.engine.specs.Runs.{RunsBlock};
 
-use crate::probing::{kind_at, see};
+use crate::probing::{kind_at, probe_count, see};
 use cc_base::Span;
 use fragment::{Exit, Fragment};
 use guest_mem::Mem;
@@ -47,7 +47,7 @@ pub fn run_block(
     requires fresh { StandsIn mem.old cpu.old.isa report.old.tool (length f.now.words) f.now }
     requires fuel { 0 < fuel.old }
     requires small { (key : ℕ) → count_at report.old.counts key + fuel.old < 2 ^ 64 }
-    ensures runs { IfOk result (λ left. (max : ℕ) (io : Io) → StandsIn mem.old cpu.old.isa report.old.tool max f.now →
+    ensures runs { IfOk result (λ left. (max : ℕ) (io : Io) → 0 < max → StandsIn mem.old cpu.old.isa report.old.tool max f.now →
         RunsBlock max f.now (fuel.old - fuel.new) fuel.old (state cpu.old mem.old io) left fuel.new (state cpu.new mem.new io)) }
     ensures report { OnOk result ((io : Io) → report.new ≡ with_events (events report.old.tool (marks_before f.now.words (state cpu.old mem.old io) (fuel.old - fuel.new))) report.old) }
     ensures wants { OnErr result ((io : Io) → WantsRow f.now (fuel.old - fuel.new) (state cpu.old mem.old io) (state cpu.new mem.new io) report.old report.new) }
@@ -62,17 +62,17 @@ pub fn run_block(
     let probes = f.probes();
     let mut rest = *fuel;
     let mut next = 0;
-    'words: for (place, word) in words.iter().enumerate() {
+    'block: for (place, word) in words.iter().enumerate() {
         if rest == 0 {
             *fuel = rest;
             return Ok(Left::Fuel);
         }
         let kind = kind_at(probes, next, place);
-        if see(report, kind, cpu, *word).is_err() {
+        if let Err(e) = see(report, kind, cpu, *word) {
             *fuel = rest;
-            return Err(AllocError);
+            return Err(e);
         }
-        next += usize::from(kind.is_some());
+        next += probe_count(kind);
         rest -= 1;
         let done = exec(cpu, mem, *word);
         if let Some(left) = leaving(done) {

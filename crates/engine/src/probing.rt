@@ -9,7 +9,7 @@ ghost use Rattle.plain_machine.specs.Memory.{size_of};
 ghost use Rattle.plain_machine.specs.Step.{access_of, address as address_of, target_of};
 ghost use Rattle.plain_machine.specs.Events.{access_event};
 ghost use Rattle.fragment.specs.Probing.{probe_at, probes_before, probes_of};
-ghost use Rattle.engine.specs.Seeing.{LacksRow, seen_by, seen_with, with_events};
+ghost use Rattle.engine.specs.Seeing.{LacksRow, probe_count, seen_by, seen_with, with_events};
 
 use fragment::Probe;
 use plain_machine::{Cpu, Size};
@@ -33,6 +33,17 @@ pub fn kind_at(probes: &[Probe], next: usize, place: usize) -> Option<ProbeKind>
     None
 }
 
+/// How many probes stand at a place.
+#[inline(always)]
+pub fn probe_count(kind: Option<ProbeKind>) -> usize
+    ensures { result ≡ probe_count kind }
+{
+    match kind {
+        None => 0,
+        Some(_) => 1,
+    }
+}
+
 /// Counts what is seen before a word, where a probe may stand.
 #[inline(always)]
 pub fn see(
@@ -42,9 +53,9 @@ pub fn see(
     word: u32,
 ) -> Result<(), AllocError>
     requires { (key : ℕ) → count_at report.old.counts key + 1 < 2 ^ 64 }
-    ensures ok { OnOk result (report.new ≡ with_events (seen_with kind cpu.now word) report.old) }
+    ensures ok { OnOk result (report.new ≡ with_events (seen_with kind cpu.now (instruction cpu.now.isa word)) report.old) }
     ensures same { OnErr result (report.new ≡ report.old) }
-    ensures lacks { OnErr result (LacksRow (seen_with kind cpu.now word) report.old.counts) }
+    ensures lacks { OnErr result (LacksRow (seen_with kind cpu.now (instruction cpu.now.isa word)) report.old.counts) }
 {
     let Some(kind) = kind else {
         return Ok(());
