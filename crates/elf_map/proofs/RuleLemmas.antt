@@ -6,7 +6,7 @@ use Rattle.elf_map.specs.declared.error.ElfErr.{ElfErr}
 use Rattle.elf_map.specs.declared.header.ProgramHeader.{ProgramHeader}
 use Rattle.elf_map.specs.Program.{executes}
 use Rattle.elf_map.specs.Results.{Tests}
-use Rattle.elf_map.specs.Elf.{Rule, first_failing, header_rules, kind_rules, segment_rules, count_rule, file_rules, headers, program_of, is_mapped, segments_of, flags_of}
+use Rattle.elf_map.specs.Elf.{Rule, first_failing, header_rules, kind_rules, segment_rules, count_rule, file_rules, headers, program_in, is_mapped, segments_of, flags_of}
 
 -- the first part decides where a rule of it fails
 pub first_failing-append_some : (xs ys : List Rule) (e : ElfErr) → first_failing xs ≡ Some e → first_failing (xs ++ ys) ≡ Some e
@@ -21,7 +21,7 @@ first_failing-append_none (x ∷ xs) ys h =
 
 -- the rules behind those on the file's header, and behind those on kinds
 abbrev from_segments : List ℕ → List Rule
-from_segments f = segment_rules (length f) 0 (headers f) ++ count_rule (program_of f) ∷ []
+from_segments f = segment_rules (length f) 0 (headers f) ++ count_rule (program_in f) ∷ []
 
 abbrev from_kinds : List ℕ → List Rule
 from_kinds f = flat_map kind_rules (headers f) ++ from_segments f
@@ -42,12 +42,12 @@ to_segments f h k =
 pub segment_fails : (f : List ℕ) (e : ElfErr) → first_failing (header_rules f) ≡ None → first_failing (flat_map kind_rules (headers f)) ≡ None
     → first_failing (segment_rules (length f) 0 (headers f)) ≡ Some e → first_failing (file_rules f) ≡ Some e
 segment_fails f e h k s =
-    to_segments f h k ∙ first_failing-append_some (segment_rules (length f) 0 (headers f)) (count_rule (program_of f) ∷ []) e s
+    to_segments f h k ∙ first_failing-append_some (segment_rules (length f) 0 (headers f)) (count_rule (program_in f) ∷ []) e s
 
 pub count_decides : (f : List ℕ) → first_failing (header_rules f) ≡ None → first_failing (flat_map kind_rules (headers f)) ≡ None
-    → first_failing (segment_rules (length f) 0 (headers f)) ≡ None → first_failing (file_rules f) ≡ first_failing (count_rule (program_of f) ∷ [])
+    → first_failing (segment_rules (length f) 0 (headers f)) ≡ None → first_failing (file_rules f) ≡ first_failing (count_rule (program_in f) ∷ [])
 count_decides f h k s =
-    to_segments f h k ∙ first_failing-append_none (segment_rules (length f) 0 (headers f)) (count_rule (program_of f) ∷ []) s
+    to_segments f h k ∙ first_failing-append_none (segment_rules (length f) 0 (headers f)) (count_rule (program_in f) ∷ []) s
 
 -- rules of which the same fails first are tested alike
 pub Tests-same : (xs ys : List Rule) (r : Result (Unit {0}) ElfErr) → first_failing xs ≡ first_failing ys → Tests ys r → Tests xs r

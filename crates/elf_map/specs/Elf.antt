@@ -1,6 +1,6 @@
 -- ELF files of 32 bits for RISC-V: which of them are taken, and what they are (System V ABI, "Object Files" and
 -- "Program Loading"; RISC-V ELF psABI, "File Header").
-use Rattle.std.specs.Prelude.{ℕ, zero, suc, ◌+◌, ◌*◌, ◌/◌, ◌%◌, ◌==◌, Bool, not, ◌&&◌, ◌||◌, nat_lt, nat_le, if◌then◌else◌, List, [], ◌∷◌, ◌++◌, length, take, drop, map, filter, Option, Some, None, Result, Ok, Err, slice_index}
+use Rattle.std.specs.Prelude.{ℕ, zero, suc, ◌+◌, ◌*◌, ◌/◌, ◌%◌, ◌==◌, Bool, not, ◌&&◌, ◌||◌, nat_lt, nat_le, if◌then◌else◌, List, [], ◌∷◌, ◌++◌, length, map, filter, Option, Some, None, Result, Ok, Err, slice_index}
 use Rattle.std.specs.List.{flat_map}
 use Rattle.plain_machine.specs.declared.access.Flags.{Flags}
 use Rattle.plain_machine.specs.Program.{Program, Segment}
@@ -8,7 +8,7 @@ use Rattle.elf_map.specs.declared.error.ElfErr.{ElfErr}
 use Rattle.elf_map.specs.declared.error.ElfErr.TheVariants as errors
 use Rattle.elf_map.specs.declared.header.ProgramHeader.{ProgramHeader}
 use Rattle.elf_map.specs.Number.{number_at}
-use Rattle.elf_map.specs.Program.{texts_of, size_limit}
+use Rattle.elf_map.specs.Program.{texts_of, size_limit, bytes_from}
 
 -- ---- the file's header
 
@@ -80,14 +80,14 @@ abbrev pub is_mapped : ProgramHeader → Bool
 is_mapped h = (h.kind == 1) && nat_lt 0 h.memory_size
 
 abbrev pub segment_of : List ℕ → ProgramHeader → Segment
-segment_of f h = record { vaddr = h.vaddr; size = h.memory_size; flags = flags_of h.flags; content = take h.file_size (drop h.offset f) }
+segment_of f h = record { vaddr = h.vaddr; size = h.memory_size; flags = flags_of h.flags; content = bytes_from h.offset h.file_size f }
 
 abbrev pub segments_of : List ℕ → List ProgramHeader → List Segment
 segments_of f hs = map (segment_of f) (filter is_mapped hs)
 
 -- the program of a file. ET_EXEC, number 2, has fixed addresses
-abbrev pub program_of : List ℕ → Program
-program_of f = record { fixed = e_type f == 2; entry = e_entry f; segments = segments_of f (headers f) }
+abbrev pub program_in : List ℕ → Program
+program_in f = record { fixed = e_type f == 2; entry = e_entry f; segments = segments_of f (headers f) }
 
 -- ---- which files are taken
 
@@ -143,7 +143,7 @@ count_rule program = (nat_le (length (texts_of program)) 4, errors.TooManyCode)
 
 -- all rules, in order
 abbrev pub file_rules : List ℕ → List Rule
-file_rules f = header_rules f ++ (flat_map kind_rules (headers f) ++ (segment_rules (length f) 0 (headers f) ++ count_rule (program_of f) ∷ []))
+file_rules f = header_rules f ++ (flat_map kind_rules (headers f) ++ (segment_rules (length f) 0 (headers f) ++ count_rule (program_in f) ∷ []))
 
 abbrev pub answered : Option ElfErr → Program → Result Program ElfErr
 answered None program = Ok program
@@ -151,4 +151,4 @@ answered (Some e) program = Err e
 
 -- the program of a file, or the answer of the first rule that fails
 abbrev pub elf_of : List ℕ → Result Program ElfErr
-elf_of f = answered (first_failing (file_rules f)) (program_of f)
+elf_of f = answered (first_failing (file_rules f)) (program_in f)

@@ -1,5 +1,5 @@
 -- The executable segments of a program, and what a program keeps.
-use Rattle.std.specs.Prelude.{◌≡◌, ℕ, ◌+◌, ◌<◌, ◌≤◌, Bool, if◌then◌else◌, List, length, map, filter}
+use Rattle.std.specs.Prelude.{◌≡◌, ℕ, ◌+◌, ◌<◌, ◌≤◌, Bool, true, if◌then◌else◌, List, length, take, drop, map, filter}
 use Rattle.cc_base.specs.Image.{Text}
 use Rattle.plain_machine.specs.Program.{Program, Segment, area_of}
 
@@ -25,12 +25,13 @@ pub record IsSegment (s : Segment) : Type 0 where
   pub end : s.vaddr + s.size ≤ 4294967295
   pub limited : s.size ≤ size_limit s.flags.execute
 
--- the bytes that are kept of a segment: those of the file, and the zeros behind them if it may be executed
-abbrev pub kept_of : Segment → List ℕ
-kept_of s = if s.flags.execute then (area_of 0 s).bytes else s.content
+-- n of the bytes, from that place on
+abbrev pub bytes_from : ℕ → ℕ → List ℕ → List ℕ
+bytes_from at n bytes = take n (drop at bytes)
 
--- these bytes, of which the first `filled` are those of the file, are kept of the segment
-pub record Keeps (filled : ℕ) (bytes : List ℕ) (s : Segment) : Type 0 where
-  pub filled_within : filled ≤ length bytes
-  pub kept : bytes ≡ kept_of s
+-- What is kept of a segment: bytes, of which the `filled` from `offset` on are those of the file. Of one that may be
+-- executed they are all its bytes, the zeros behind those of the file too.
+pub record Keeps (offset filled : ℕ) (bytes : List ℕ) (s : Segment) : Type 0 where
+  pub within : offset + filled ≤ length bytes
+  pub whole : executes s ≡ true → bytes ≡ (area_of 0 s).bytes
   pub segment : IsSegment s

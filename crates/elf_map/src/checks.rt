@@ -1,7 +1,7 @@
 ghost use Rattle.std.specs.Prelude.{◌≡◌, ◌+◌, ◌*◌, ◌≤◌, ◌∷◌, [], length, true, None, OnOk};
 ghost use Rattle.std.specs.List.{flat_map, list_all};
 ghost use Rattle.elf_map.specs.Program.{texts_of};
-ghost use Rattle.elf_map.specs.Elf.{file_rules, header_rules, headers, kind_rules, segment_rules, segments_of, count_rule, program_of, is_sound, first_failing};
+ghost use Rattle.elf_map.specs.Elf.{file_rules, header_rules, headers, kind_rules, segment_rules, segments_of, count_rule, program_in, is_sound, first_failing};
 ghost use Rattle.elf_map.specs.Results.{Tests};
 
 use crate::error::ElfErr;
@@ -12,7 +12,7 @@ pub fn check(file: &[u8]) -> Result<(), ElfErr>
     ensures rules { Tests (file_rules file.now) result }
     ensures header { OnOk result (first_failing (header_rules file.now) ≡ None) }
     ensures sound { OnOk result (list_all (is_sound (length file.now)) (headers file.now) ≡ true) }
-    ensures few { OnOk result (length (texts_of (program_of file.now)) ≤ 4) }
+    ensures few { OnOk result (length (texts_of (program_in file.now)) ≤ 4) }
 {
     check_header(file)?;
     check_kinds(file)?;
@@ -103,8 +103,8 @@ fn check_segments(file: &[u8]) -> Result<(), ElfErr>
 /// Tests how many segments may be executed.
 fn check_count(file: &[u8]) -> Result<(), ElfErr>
     requires { first_failing (header_rules file.now) ≡ None }
-    ensures rule { Tests (count_rule (program_of file.now) ∷ []) result }
-    ensures few { OnOk result (length (texts_of (program_of file.now)) ≤ 4) }
+    ensures rule { Tests (count_rule (program_in file.now) ∷ []) result }
+    ensures few { OnOk result (length (texts_of (program_in file.now)) ≤ 4) }
 {
     let mut count: usize = 0;
     for header in Headers::of(file) {

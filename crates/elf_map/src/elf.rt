@@ -11,11 +11,12 @@ use crate::error::ElfErr;
 use crate::header::{Headers, u16_at, u32_at};
 use crate::place::{greatest_end, place, unplace};
 use crate::segment::FileSegment;
-use cc_base::FileCode;
+use cc_base::{Blob, FileCode};
 use guest_mem::Mem;
 use plain_machine::MemErr;
 use std::alloc::{AllocError, Global};
 use std::marker::Model;
+use std::sync::Arc;
 
 /// The program of an ELF file: whether its addresses are fixed, its entry, and its segments in the order of their
 /// headers. At most four of these may be executed.
@@ -121,10 +122,11 @@ fn segments_in(alloc: Global, file: &[u8]) -> Result<Vec<FileSegment>, AllocErro
     requires sound { list_all (is_sound (length file.now)) (headers file.now) ≡ true }
     ensures { IfOk result (λ v. v.items ≡ segments_of file.now (headers file.now)) }
 {
+    let shared = Arc::new(alloc, Blob::of(alloc, file)?)?;
     let mut segments = Vec::new(alloc);
     for header in Headers::of(file) {
         if header.is_mapped() {
-            segments.push(FileSegment::read(alloc, file, &header)?)?;
+            segments.push(FileSegment::read(alloc, &shared, &header)?)?;
         }
     }
     Ok(segments)

@@ -1,10 +1,11 @@
-ghost use Rattle.std.specs.Prelude.{◌≡◌, ◌+◌, ◌-◌, ◌<◌, ◌≤◌, ◌++◌, ◌∷◌, [], ◌↔◌, length, true, replicate, IfOk, IfSome, IsNone, OnOk, MatchResult};
+ghost use Rattle.std.specs.Prelude.{◌≡◌, ◌+◌, ◌-◌, ◌<◌, ◌≤◌, ◌++◌, ◌∷◌, [], ◌↔◌, length, true, false, replicate, IfOk, IfSome, IsNone, OnOk, MatchResult};
 ghost use Rattle.plain_machine.specs.Region.{region_of};
 ghost use Rattle.plain_machine.specs.Memory.{refusal, others};
 ghost use Rattle.plain_machine.specs.Program.{runs_at, area_of};
 ghost use Rattle.guest_mem.specs.Results.{RefusedFor};
 ghost use Rattle.elf_map.specs.Program.{executes, text_of};
-ghost use Rattle.elf_map.specs.Elf.{is_mapped, is_sound, segment_of};
+ghost use Rattle.elf_map.specs.Elf.{flags_of, is_mapped, is_sound, segment_of};
+ghost use Rattle.std.specs.Arc.{arc_value};
 
 use crate::header::ProgramHeader;
 use cc_base::{Blob, FileCode};
@@ -14,33 +15,50 @@ use std::alloc::{AllocError, Global};
 use std::marker::Model;
 use std::sync::Arc;
 
-/// A segment of a file, of `size` bytes. The first `filled` of the bytes kept are those of the file; an executable
-/// segment keeps the zeros behind them too, so that all its bytes are shared as they are.
+/// A segment of a file, of `size` bytes. Those of the file are the `filled` bytes from `offset` on of the bytes kept:
+/// an executable segment keeps all its bytes, the zeros behind them too, to be shared as they are; each other one shares
+/// the bytes of the whole file.
 #[derive(Drop)]
 pub struct FileSegment {
     vaddr: u32,
     size: u32,
     flags: Flags,
+    offset: u32,
     filled: u32,
     bytes: Arc<Blob>,
 }
 
 impl Model for FileSegment {
-    ghost use Rattle.std.specs.Prelude.{take};
     ghost use Rattle.std.specs.Arc.{arc_value};
     ghost use Rattle.plain_machine.specs.Program.{Segment};
-    ghost use Rattle.elf_map.specs.Program.{Keeps};
+    ghost use Rattle.elf_map.specs.Program.{Keeps, bytes_from};
 
     ghost Value = { Segment };
 
-    ghost view = { λ s. record { vaddr = s.vaddr; size = s.size; flags = s.flags; content = take s.filled (arc_value s.bytes) } };
+    ghost view = { λ s. record { vaddr = s.vaddr; size = s.size; flags = s.flags; content = bytes_from s.offset s.filled (arc_value s.bytes) } };
 
-    ghost invariant = { λ s. Keeps s.filled (arc_value s.bytes) (record { vaddr = s.vaddr; size = s.size; flags = s.flags; content = take s.filled (arc_value s.bytes) }) };
+    ghost invariant = { λ s. Keeps s.offset s.filled (arc_value s.bytes) (record { vaddr = s.vaddr; size = s.size; flags = s.flags; content = bytes_from s.offset s.filled (arc_value s.bytes) }) };
 }
 
 impl FileSegment {
-    /// The segment of a program header.
+    /// The segment of a program header of the file.
     pub fn read(
+        alloc: Global,
+        file: &Arc<Blob>,
+        header: &ProgramHeader,
+    ) -> Result<FileSegment, AllocError>
+        requires mapped { is_mapped header.now ≡ true }
+        requires sound { is_sound (length (arc_value file.now)) header.now ≡ true }
+        ensures { IfOk result (λ s. s ≡ segment_of (arc_value file.now) header.now) }
+    {
+        if header.flags().execute {
+            FileSegment::read_code(alloc, file.items(), header)
+        } else {
+            FileSegment::share(file, header)
+        }
+    }
+
+    fn read_code(
         alloc: Global,
         file: &[u8],
         header: &ProgramHeader,
@@ -49,20 +67,32 @@ impl FileSegment {
         requires sound { is_sound (length file.now) header.now ≡ true }
         ensures { IfOk result (λ s. s ≡ segment_of file.now header.now) }
     {
-        let flags = header.flags();
         let start = header.offset as usize;
         let content = &file[start..start + header.file_size as usize];
-        let kept = if flags.execute {
-            header.memory_size
-        } else {
-            header.file_size
-        };
-        let bytes = padded(alloc, content, kept)?;
+        let bytes = padded(alloc, content, header.memory_size)?;
         let bytes = Arc::new(alloc, Blob::from_vec(bytes))?;
         Ok(FileSegment {
             vaddr: header.vaddr,
             size: header.memory_size,
-            flags,
+            flags: header.flags(),
+            offset: 0,
+            filled: header.file_size,
+            bytes,
+        })
+    }
+
+    fn share(file: &Arc<Blob>, header: &ProgramHeader) -> Result<FileSegment, AllocError>
+        requires mapped { is_mapped header.now ≡ true }
+        requires sound { is_sound (length (arc_value file.now)) header.now ≡ true }
+        requires plain { (flags_of header.now.flags).execute ≡ false }
+        ensures { IfOk result (λ s. s ≡ segment_of (arc_value file.now) header.now) }
+    {
+        let bytes = Arc::try_clone(file)?;
+        Ok(FileSegment {
+            vaddr: header.vaddr,
+            size: header.memory_size,
+            flags: header.flags(),
+            offset: header.offset,
             filled: header.file_size,
             bytes,
         })
@@ -106,7 +136,8 @@ impl FileSegment {
         ensures added { MatchResult result (λ _. mem.new ≡ mem.old ++ region_of start self.now.flags self.now.content self.now.size ∷ []) (λ _. mem.new ≡ mem.old) }
         ensures undone { OnOk result (others mem.new start ≡ mem.old) }
     {
-        let content = &self.bytes.items()[..self.filled as usize];
+        let from = self.offset as usize;
+        let content = &self.bytes.items()[from..from + self.filled as usize];
         mem.add(start, self.flags, content, self.size)
     }
 

@@ -1,4 +1,4 @@
-ghost use Rattle.std.specs.Prelude.{◌≡◌, ◌<◌, ◌≤◌, ◌^◌, ◌-◌, IfOk, None, MatchResult};
+ghost use Rattle.std.specs.Prelude.{◌≡◌, ◌<◌, ◌≤◌, ◌^◌, ◌-◌, IfOk, OnErr, None, MatchResult};
 ghost use Rattle.guest_mem.specs.Results.{RefusedFor};
 ghost use Rattle.plain_machine.specs.Memory.{Memory};
 ghost use Rattle.plain_machine.specs.Step.{reg};
@@ -6,7 +6,7 @@ ghost use Rattle.plain_machine.specs.Calls.{behind, brk_call, called, counted, i
 
 use crate::io::GuestIo;
 use cc_base::Span;
-use guest_mem::{CopyErr, Mem};
+use guest_mem::Mem;
 use plain_machine::{Asked, Cpu, Flags, Heap, MemErr};
 use std::alloc::AllocError;
 
@@ -18,9 +18,10 @@ const MAP_LIMIT: u32 = 128;
 
 /// Does the system call that the processor asks for: its number is in x17, its arguments are in x10 to x12, and its
 /// result is put into x10. For `Map`, `Unmap` and `Replace` the caller puts the result. Except after `Exit` and
-/// `OutputFull`, the program counter is behind the call. Want of memory leaves the guest spent.
+/// `OutputFull`, the program counter is behind the call. Want of memory leaves all as it was.
 pub fn ask(cpu: &mut Cpu, mem: &mut Mem, io: &mut GuestIo) -> Result<Asked, AllocError>
-    ensures { IfOk result (λ asked. (asked, cpu.new, mem.new, io.new) ≡ called cpu.old mem.old io.old) }
+    ensures wants { OnErr result ((cpu.new ≡ cpu.old) × (mem.new ≡ mem.old) × (io.new ≡ io.old)) }
+    ensures called { IfOk result (λ asked. (asked, cpu.new, mem.new, io.new) ≡ called cpu.old mem.old io.old) }
 {
     match cpu.regs.get(17) {
         63 => Ok(read(cpu, mem, io)),
@@ -87,7 +88,8 @@ fn read(cpu: &mut Cpu, mem: &mut Mem, io: &mut GuestIo) -> Asked
 }
 
 fn write(cpu: &mut Cpu, mem: &Mem, io: &mut GuestIo) -> Result<Asked, AllocError>
-    ensures { IfOk result (λ asked. (asked, cpu.new, mem.now, io.new) ≡ write_call cpu.old mem.now io.old) }
+    ensures wants { OnErr result ((cpu.new ≡ cpu.old) × (io.new ≡ io.old)) }
+    ensures called { IfOk result (λ asked. (asked, cpu.new, mem.now, io.new) ≡ write_call cpu.old mem.now io.old) }
 {
     let fd = cpu.regs.get(10);
     if fd != 1 && fd != 2 {
@@ -97,22 +99,19 @@ fn write(cpu: &mut Cpu, mem: &Mem, io: &mut GuestIo) -> Result<Asked, AllocError
     if len == 0 {
         return Ok(give_back(cpu, 0));
     }
-    let before = io.output_len();
-    match io.write(mem, cpu.regs.get(11), len) {
-        Ok(()) => {
-            if io.output_len() > OUTPUT_LIMIT {
-                io.cut_output(before);
-                return Ok(Asked::OutputFull);
-            }
-            Ok(give_back(cpu, len))
-        }
-        Err(CopyErr::Access(_)) => Ok(give_back(cpu, minus(14))),
-        Err(CopyErr::Memory) => Err(AllocError),
+    let Ok(bytes) = mem.bytes(cpu.regs.get(11), len) else {
+        return Ok(give_back(cpu, minus(14)));
+    };
+    if io.output().len() + len as usize > OUTPUT_LIMIT {
+        return Ok(Asked::OutputFull);
     }
+    io.write(bytes)?;
+    Ok(give_back(cpu, len))
 }
 
 fn brk(cpu: &mut Cpu, mem: &mut Mem, io: &mut GuestIo) -> Result<Asked, AllocError>
-    ensures { IfOk result (λ asked. (asked, cpu.new, mem.new, io.new) ≡ brk_call cpu.old mem.old io.old) }
+    ensures wants { OnErr result ((cpu.new ≡ cpu.old) × (mem.new ≡ mem.old) × (io.new ≡ io.old)) }
+    ensures called { IfOk result (λ asked. (asked, cpu.new, mem.new, io.new) ≡ brk_call cpu.old mem.old io.old) }
 {
     let Some(heap) = io.heap() else {
         return Ok(give_back(cpu, minus(12)));
@@ -121,7 +120,7 @@ fn brk(cpu: &mut Cpu, mem: &mut Mem, io: &mut GuestIo) -> Result<Asked, AllocErr
     if end < heap.start {
         return Ok(give_back(cpu, heap.end));
     }
-    match move_end(mem, heap, end) {
+    match make_heap(mem, heap, end - heap.start) {
         Ok(()) => {
             io.set_heap(Heap {
                 start: heap.start,
@@ -134,16 +133,16 @@ fn brk(cpu: &mut Cpu, mem: &mut Mem, io: &mut GuestIo) -> Result<Asked, AllocErr
     }
 }
 
-fn move_end(mem: &mut Mem, heap: Heap, end: u32) -> Result<(), MemErr>
-    requires { heap.start ≤ end }
-    ensures refused { RefusedFor (heap_refusal mem.old heap end) result }
-    ensures moved { MatchResult result (λ _. mem.new ≡ with_heap mem.old heap end) (λ _. mem.new ≡ mem.old) }
+/// Makes the heap this long. An empty heap has no region.
+fn make_heap(mem: &mut Mem, heap: Heap, len: u32) -> Result<(), MemErr>
+    ensures refused { RefusedFor (heap_refusal mem.old heap len) result }
+    ensures made { MatchResult result (λ _. mem.new ≡ with_heap mem.old heap len) (λ _. mem.new ≡ mem.old) }
 {
-    let len = end - heap.start;
     if heap.start != heap.end {
         return mem.resize(heap.start, len);
     }
     if len == 0 {
+        mem.laws();
         return Ok(());
     }
     let flags = Flags {

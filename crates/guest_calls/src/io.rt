@@ -1,10 +1,8 @@
-ghost use Rattle.std.specs.Prelude.{◌≡◌, ◌≤◌, ◌<◌, ◌++◌, [], ◌∷◌, length, take, drop, find, position, option_map, IfOk, OnOk, OnErr};
-ghost use Rattle.guest_mem.specs.Results.{Copies};
+ghost use Rattle.std.specs.Prelude.{◌≡◌, ◌≤◌, ◌<◌, ◌++◌, [], ◌∷◌, length, drop, find, position, option_map, IfOk, OnOk, OnErr};
 ghost use Rattle.plain_machine.specs.Calls.{counted, is_mapped, is_module};
-ghost use Rattle.plain_machine.specs.Memory.{read, without_first};
+ghost use Rattle.plain_machine.specs.Memory.{without_first};
 
 use cc_base::Blob;
-use guest_mem::{CopyErr, Mem};
 use plain_machine::{Heap, Mapping};
 use std::alloc::{AllocError, Global};
 use std::marker::Model;
@@ -48,7 +46,8 @@ impl GuestIo {
         })
     }
 
-    /// The module is mapped, from this file.
+    /// The module is mapped, from this file. It keeps the file's number while it is mapped, whatever file the module
+    /// becomes meanwhile.
     pub fn mark_mapped(&mut self, module: u32, file: u32) -> Result<(), AllocError>
         ensures ok { OnOk result (self.new ≡ record self.old { mapped = self.old.mapped ++ record { «module» = «module»; file = file } ∷ [] }) }
         ensures err { OnErr result (self.new ≡ self.old) }
@@ -89,7 +88,7 @@ impl GuestIo {
     }
 
     /// One more map call was made.
-    pub fn count_map_call(&mut self)
+    pub(crate) fn count_map_call(&mut self)
         requires { self.old.map_calls < 4294967295 }
         ensures { self.new ≡ counted self.old }
     {
@@ -119,34 +118,19 @@ impl GuestIo {
     }
 
     /// Takes `n` bytes of the input.
-    pub fn take_input(&mut self, n: usize)
+    pub(crate) fn take_input(&mut self, n: usize)
         requires { n ≤ length self.old.input }
         ensures { self.new ≡ record self.old { input = drop n self.old.input } }
     {
         self.taken += n;
     }
 
-    /// The number of bytes of the output.
-    pub fn output_len(&self) -> usize
-        ensures { result ≡ length self.now.output }
+    /// Appends the bytes to the output.
+    pub(crate) fn write(&mut self, bytes: &[u8]) -> Result<(), AllocError>
+        ensures ok { OnOk result (self.new ≡ record self.old { output = self.old.output ++ bytes.now }) }
+        ensures err { OnErr result (self.new ≡ self.old) }
     {
-        self.output.len()
-    }
-
-    /// Appends the bytes of the memory to the output.
-    pub fn write(&mut self, mem: &Mem, addr: u32, len: u32) -> Result<(), CopyErr>
-        requires { 0 < len }
-        ensures output { Copies (read mem.now addr len) result self.old.output self.new.output }
-        ensures same { self.new ≡ record self.old { output = self.new.output } }
-    {
-        mem.copy_out(addr, len, &mut self.output)
-    }
-
-    /// Cuts the output to `len` bytes.
-    pub fn cut_output(&mut self, len: usize)
-        ensures { self.new ≡ record self.old { output = take len self.old.output } }
-    {
-        self.output.truncate(len);
+        self.output.extend_from_slice(bytes)
     }
 
     /// The heap; none where there is no room for one.
@@ -157,7 +141,7 @@ impl GuestIo {
     }
 
     /// Puts the heap there.
-    pub fn set_heap(&mut self, heap: Heap)
+    pub(crate) fn set_heap(&mut self, heap: Heap)
         ensures { self.new ≡ record self.old { heap = Some heap } }
     {
         self.heap = Some(heap);

@@ -1,5 +1,5 @@
 -- What a call leaves, by what it comes to.
-use Rattle.std.proofs.Common.{◌≡◌, ℕ, ◌==◌, ◌||◌, Bool, true, false, if◌then◌else◌, List, ◌++◌, length, Option, Some, None, Result, Ok, Err, refl, take}
+use Rattle.std.proofs.Common.{◌≡◌, ℕ, ◌==◌, ◌||◌, Bool, true, false, if◌then◌else◌, List, length, Option, Some, None, Result, Ok, Err, refl, take, ◌+◌, ◌-◌}
 use Rattle.std.specs.Prelude.{nat_lt, nat_le, min}
 use Rattle.plain_machine.specs.declared.access.Access.{Access}
 use Rattle.plain_machine.specs.declared.access.MemErr.{MemErr}
@@ -29,7 +29,7 @@ reads cpu m io buf n (Ok after) = refl
 reads cpu m io buf n (Err e) = refl
 
 writes : (cpu : Cpu) (m : Memory) (io : Io) (len : ℕ) (r : Result (List ℕ) Access) → Leaves cpu io (after_write cpu m io len r)
-writes cpu m io len (Ok bytes) = either cpu io (nat_lt 1048576 (length (io.output ++ bytes))) _ _ refl refl
+writes cpu m io len (Ok bytes) = either cpu io (nat_lt 1048576 (length io.output + len)) _ _ refl refl
 writes cpu m io len (Err e) = refl
 
 brks : (cpu : Cpu) (m : Memory) (io : Io) (heap : Heap) (a : ℕ) (r : Option MemErr) → Leaves cpu io (after_brk cpu m io heap a r)
@@ -38,7 +38,7 @@ brks cpu m io heap a (Some e) = refl
 
 brks-at : (cpu : Cpu) (m : Memory) (io : Io) (heap : Option Heap) (a : ℕ) → Leaves cpu io (brk_at cpu m io heap a)
 brks-at cpu m io None a = refl
-brks-at cpu m io (Some heap) a = either cpu io (nat_lt a heap.start) _ _ refl (brks cpu m io heap a (heap_refusal m heap a))
+brks-at cpu m io (Some heap) a = either cpu io (nat_lt a heap.start) _ _ refl (brks cpu m io heap a (heap_refusal m heap (a - heap.start)))
 
 reads-input : (cpu : Cpu) (m : Memory) (io : Io) (buf n : ℕ) → Leaves cpu io (read_input cpu m io buf n)
 reads-input cpu m io buf n = either cpu io (n == 0) _ _ refl (reads cpu m io buf n (written m buf (take n io.input)))

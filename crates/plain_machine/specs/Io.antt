@@ -12,5 +12,5 @@ pub record Io : Type 0 where
   pub heap : Option Heap
   -- how many map calls were made
   pub map_calls : ℕ
-  -- the modules that are mapped
+  -- the modules that are mapped, each with the file that it was mapped from
   pub mapped : List Mapping

@@ -1,5 +1,5 @@
 use Rattle.std.proofs.Common.{[], ◌∷◌}
-use Rattle.elf_map.specs.Elf.{file_rules, count_rule, program_of}
+use Rattle.elf_map.specs.Elf.{file_rules, count_rule, program_in}
 use Rattle.std.proofs.lemmas.Result.{err_from_is_err_and}
 use Rattle.elf_map.proofs.RuleLemmas.{header_fails, kind_fails, segment_fails, count_decides, Tests-same}
 use Rattle.elf_map.proofs.checks.check.Goals as goal
@@ -21,5 +21,5 @@ returns-in_err-check_segments-clause-rules c =
 
 pub returns-clause-rules : goal.returns-clause-rules
 returns-clause-rules c =
-    Tests-same (file_rules c.args.file.now) (count_rule (program_of c.args.file.now) ∷ []) c.check_count.result
+    Tests-same (file_rules c.args.file.now) (count_rule (program_in c.args.file.now) ∷ []) c.check_count.result
     (count_decides c.args.file.now c.in_ok-check_header.ensures c.in_ok-check_kinds.ensures c.in_ok-check_segments.ensures.rules) c.check_count.ensures.rule
