@@ -45,12 +45,11 @@ pub done-through : (words : List ℕ) (s now : State) (i word : ℕ) (d : Done) 
 done-through words s now i word d c m at is did =
     ap (λ x. (step (slice_index words i) x.cpu x.memory).0) (sym at) ∙ ap (λ x. (step x now.cpu now.memory).0) (sym is) ∙ ap (λ o. o.0) (sym did)
 
--- all words before went on, and so does this one
-pub went-more : (words : List ℕ) (s : State) (i : ℕ) → ((k : ℕ) → k < i → done_at words s k ≡ done.Next) → done_at words s i ≡ done.Next →
-    (k : ℕ) → k < suc i → done_at words s k ≡ done.Next
-went-more words s i before here k lt = elim (cases_lt k i) [
+-- what holds of all words before holds of those up to this one
+pub up-to : (P : ℕ → Type 0) (i : ℕ) → ((k : ℕ) → k < i → P k) → P i → (k : ℕ) → k < suc i → P k
+up-to P i before here k lt = elim (cases_lt k i) [
   | inl less ↦ before k less
-  | inr not_less ↦ let same : i ≡ k = omega arith in subst (λ j. done_at words s j ≡ done.Next) same here
+  | inr not_less ↦ let same : i ≡ k = omega arith in subst P same here
 ]
 
 -- the events of one word more

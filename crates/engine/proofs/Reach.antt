@@ -29,14 +29,14 @@ use Rattle.fragment.specs.declared.Exit.{Exit}
 use Rattle.fragment.specs.Parts.{Parts}
 use Rattle.fragment.specs.Build.{IsBuilt, word_at, has_word, last}
 use Rattle.guest_mem.proofs.MemoryLemmas.{found_ends}
-use Rattle.engine.specs.Words.{DoesWords, state_at, done_at, is_first, marks_before, last_exit, leaving, left_by}
+use Rattle.engine.specs.Words.{DoesWords, word_of, state_at, done_at, is_first, marks_before, last_exit, leaving, left_by}
 use Rattle.engine.specs.Standing.{SameCode}
-use Rattle.engine.specs.Runs.{RunsBlock, behind}
+use Rattle.engine.specs.Runs.{RunsBlock, onward}
 use Rattle.engine.specs.declared.block.Left.{Left}
 use Rattle.engine.specs.declared.block.Left.TheVariants as lefts
 use Rattle.engine.proofs.KeptCode.{holds-found, found_is, and_left}
 use Rattle.engine.proofs.Steps.{GoesOn, goes-on, Keeps, KeepsCode, keeps-code}
-use Rattle.engine.proofs.Path.{state-first, state-more, marks-none, marks-more, state-through, done-through, went-more}
+use Rattle.engine.proofs.Path.{state-first, state-more, marks-none, marks-more, state-through, done-through, up-to}
 
 -- the i words done so far end with one that ends a block
 abbrev pub closed : Isa → List ℕ → ℕ → Bool
@@ -62,6 +62,7 @@ pub record Reaches (isa : Isa) (max : ℕ) (region : Area) (block : Parts) (fuel
   pub same : SameCode s.memory now.memory
   pub spent : rest + i ≡ fuel
   pub went : (k : ℕ) → k < i → done_at block.words s k ≡ done.Next
+  pub there : (k : ℕ) → k < i → word_of (state_at block.words s k) ≡ Ok (slice_index block.words k)
   pub at : now ≡ state_at block.words s i
   pub seen : (w : Setting) (answers : List ℕ) → marked max (run w fuel answers s)
       ≡ with_marks (marks_before block.words s i) (marked_in max (room isa max block.words i) (place region i) (run w rest answers now))
@@ -76,6 +77,7 @@ reaches-start isa max region block fuel s at same good here = record {
   same = λ a. refl;
   spent = omega arith;
   went = λ k lt. absurd (omega arith);
+  there = λ k lt. absurd (omega arith);
   at = sym (state-first block.words s);
   seen = λ w answers. ap (λ marks. with_marks marks (marked max (run w fuel answers s))) (sym (marks-none block.words s));
 }
@@ -181,6 +183,11 @@ or_true false = refl
 pc_next : (cpu : Cpu) (region : Area) → cpu.pc + 4 ≤ end_of region → end_of region ≤ 4294967295 → next cpu ≡ cpu.pc + 4
 pc_next cpu region a b = omega (arith, a, b)
 
+-- the word at i, in its state
+there-at : (words : List ℕ) (s now : State) (i word : ℕ) → now ≡ state_at words s i → word ≡ slice_index words i → fetched now.memory now.cpu.pc ≡ Ok word →
+    word_of (state_at words s i) ≡ Ok (slice_index words i)
+there-at words s now i word at is fetch = ap word_of (sym at) ∙ fetch ∙ ap Ok is
+
 pub reaches-more : (isa : Isa) (tool : Tool) (max : ℕ) (region : Area) (block : Parts) (fuel : ℕ) (s : State) (i rest word : ℕ) (now : State) (c : Cpu) (m : Memory) →
     IsBuilt (code_of region) isa tool max block → i < length block.words → word ≡ slice_index block.words i → (done.Next, c, m) ≡ step word now.cpu now.memory →
     Reaches isa max region block fuel s i (suc rest) now → Reaches isa max region block fuel s (suc i) rest (record now { cpu = c; memory = m })
@@ -205,7 +212,8 @@ reaches-more isa tool max region block fuel s i rest word now c m built lt is di
       here = keeps.code block.address ∙ reach.here;
       same = λ a. keeps.code a ∙ reach.same a;
       spent = omega (arith, reach.spent);
-      went = went-more block.words s i reach.went (done-through block.words s now i word done.Next c m reach.at is did);
+      went = up-to (λ k. done_at block.words s k ≡ done.Next) i reach.went (done-through block.words s now i word done.Next c m reach.at is did);
+      there = up-to (λ k. word_of (state_at block.words s k) ≡ Ok (slice_index block.words k)) i reach.there (there-at block.words s now i word reach.at is f.fetch);
       at = state-through block.words s now i word done.Next c m reach.at is did;
       seen = λ w answers.
           reach.seen w answers
@@ -300,12 +308,15 @@ not-fuel (done.Touched span) left h e = cc
 not-fuel (done.Fault kind) left h e = cc
 
 -- the words up to one that leaves the block
-words-out : (isa : Isa) (max : ℕ) (region : Area) (block : Parts) (fuel : ℕ) (s : State) (i rest word : ℕ) (now : State) (d : Done) (c : Cpu) (m : Memory) (left : Left) →
-    i < length block.words → word ≡ slice_index block.words i → (d, c, m) ≡ step word now.cpu now.memory → leaving d ≡ Some left →
+words-out : (isa : Isa) (tool : Tool) (max : ℕ) (region : Area) (block : Parts) (fuel : ℕ) (s : State) (i rest word : ℕ) (now : State) (d : Done) (c : Cpu) (m : Memory) (left : Left) →
+    IsBuilt (code_of region) isa tool max block → i < length block.words → word ≡ slice_index block.words i → (d, c, m) ≡ step word now.cpu now.memory → leaving d ≡ Some left →
     Reaches isa max region block fuel s i (suc rest) now → DoesWords block (suc i) s left (record now { cpu = c; memory = m })
-words-out isa max region block fuel s i rest word now d c m left lt is did how reach = record {
+words-out isa tool max region block fuel s i rest word now d c m left built lt is did how reach = record {
   some = omega arith;
   at_most = omega (arith, lt);
+  there =
+      let f = fetches isa tool max region block fuel s i (suc rest) word now built lt is reach in
+      up-to (λ k. word_of (state_at block.words s k) ≡ Ok (slice_index block.words k)) i reach.there (there-at block.words s now i word reach.at is f.fetch);
   went = λ k less. reach.went k (omega (arith, less));
   left =
       let back : suc i - 1 ≡ i = omega arith in
@@ -319,7 +330,7 @@ words-out isa max region block fuel s i rest word now d c m left lt is did how r
 seen-out : (isa : Isa) (tool : Tool) (max : ℕ) (region : Area) (block : Parts) (fuel : ℕ) (s : State) (i rest word : ℕ) (now : State) (d : Done) (c : Cpu) (m : Memory) (left : Left) →
     IsBuilt (code_of region) isa tool max block → i < length block.words → word ≡ slice_index block.words i → (d, c, m) ≡ step word now.cpu now.memory → leaving d ≡ Some left →
     Reaches isa max region block fuel s i (suc rest) now → (w : Setting) (answers : List ℕ) →
-    marked max (run w fuel answers s) ≡ with_marks (marks_before block.words s (suc i)) (behind max left rest (record now { cpu = c; memory = m }) w answers)
+    marked max (run w fuel answers s) ≡ with_marks (marks_before block.words s (suc i)) (onward max left rest (record now { cpu = c; memory = m }) w answers)
 seen-out isa tool max region block fuel s i rest word now done.Next c m left built lt is did how reach w answers = absurd (cc)
 seen-out isa tool max region block fuel s i rest word now done.Taken c m left built lt is did how reach w answers =
     let f = fetches isa tool max region block fuel s i (suc rest) word now built lt is reach in
@@ -327,14 +338,14 @@ seen-out isa tool max region block fuel s i rest word now done.Taken c m left bu
     let goes : action now ≡ Goes next = action_of isa region now word f ∙ ap (stepped now) (sym did) in
     let shut : closes now ≡ true = closes_of isa region now word f ∙ ap (λ b. b || touched (step word now.cpu now.memory)) (ends-taken word now.cpu c now.memory m did) in
     leaves-with isa tool max region block fuel s i rest word now w answers (run w rest answers next) built lt is reach (run-goes w rest answers now next goes) shut
-    ∙ ap (λ x. with_marks (marks_before block.words s (suc i)) (behind max x rest next w answers)) (same_Some (lefts.Exit 0) left how)
+    ∙ ap (λ x. with_marks (marks_before block.words s (suc i)) (onward max x rest next w answers)) (same_Some (lefts.Exit 0) left how)
 seen-out isa tool max region block fuel s i rest word now (done.Touched span) c m left built lt is did how reach w answers =
     let f = fetches isa tool max region block fuel s i (suc rest) word now built lt is reach in
     let next : State = record now { cpu = c; memory = m } in
     let goes : action now ≡ Goes next = action_of isa region now word f ∙ ap (stepped now) (sym did) in
     let shut : closes now ≡ true = closes_of isa region now word f ∙ ap (λ o. ends_block (instruction now.cpu.isa word) || touched o) (sym did) ∙ or_true (ends_block (instruction now.cpu.isa word)) in
     leaves-with isa tool max region block fuel s i rest word now w answers (run w rest answers next) built lt is reach (run-goes w rest answers now next goes) shut
-    ∙ ap (λ x. with_marks (marks_before block.words s (suc i)) (behind max x rest next w answers)) (same_Some (lefts.Touched span) left how)
+    ∙ ap (λ x. with_marks (marks_before block.words s (suc i)) (onward max x rest next w answers)) (same_Some (lefts.Touched span) left how)
 seen-out isa tool max region block fuel s i rest word now done.Asked c m left built lt is did how reach w answers =
     let f = fetches isa tool max region block fuel s i (suc rest) word now built lt is reach in
     let next : State = record now { cpu = c; memory = m } in
@@ -342,16 +353,16 @@ seen-out isa tool max region block fuel s i rest word now done.Asked c m left bu
     let shut : closes now ≡ true = closes_of isa region now word f ∙ ap (λ b. b || touched (step word now.cpu now.memory)) (ends-asked word now.cpu c now.memory m did) in
     let same : now ≡ next = as-before now c m (subst (IsSame now.cpu now.memory) (sym did) (same-step (effect_of (instruction now.cpu.isa word) now.cpu now.memory) now.cpu now.memory)) in
     leaves-with isa tool max region block fuel s i rest word now w answers (run_behind w rest now (transition_by w answers now (call now))) built lt is reach (run-call w rest answers now calls) shut
-    ∙ ap (λ x. with_marks (marks_before block.words s (suc i)) (behind max lefts.Asked rest x w answers)) same
-    ∙ ap (λ x. with_marks (marks_before block.words s (suc i)) (behind max x rest next w answers)) (same_Some lefts.Asked left how)
+    ∙ ap (λ x. with_marks (marks_before block.words s (suc i)) (onward max lefts.Asked rest x w answers)) same
+    ∙ ap (λ x. with_marks (marks_before block.words s (suc i)) (onward max x rest next w answers)) (same_Some lefts.Asked left how)
 seen-out isa tool max region block fuel s i rest word now (done.Fault kind) c m left built lt is did how reach w answers =
     let f = fetches isa tool max region block fuel s i (suc rest) word now built lt is reach in
     let next : State = record now { cpu = c; memory = m } in
     let stops : action now ≡ Ends (ends.Fault kind now.cpu.pc) = action_of isa region now word f ∙ ap (stepped now) (sym did) in
     let same : now ≡ next = as-before now c m (subst (IsSame now.cpu now.memory) (sym did) (same-step (effect_of (instruction now.cpu.isa word) now.cpu now.memory) now.cpu now.memory)) in
     ends-with isa tool max region block fuel s i rest word now w answers (ends.Fault kind now.cpu.pc) built lt is reach stops
-    ∙ ap (λ x. with_marks (marks_before block.words s (suc i)) (behind max (lefts.Fault kind) rest x w answers)) same
-    ∙ ap (λ x. with_marks (marks_before block.words s (suc i)) (behind max x rest next w answers)) (same_Some (lefts.Fault kind) left how)
+    ∙ ap (λ x. with_marks (marks_before block.words s (suc i)) (onward max (lefts.Fault kind) rest x w answers)) same
+    ∙ ap (λ x. with_marks (marks_before block.words s (suc i)) (onward max x rest next w answers)) (same_Some (lefts.Fault kind) left how)
 
 -- a word that leaves its block
 pub reaches-out : (isa : Isa) (tool : Tool) (max : ℕ) (region : Area) (block : Parts) (fuel : ℕ) (s : State) (i rest word : ℕ) (now : State) (d : Done) (c : Cpu) (m : Memory) (left : Left) →
@@ -360,7 +371,7 @@ pub reaches-out : (isa : Isa) (tool : Tool) (max : ℕ) (region : Area) (block :
 reaches-out isa tool max region block fuel s i rest word now d c m left built lt is did how reach = record {
   spent = omega (arith, reach.spent);
   ran_out = λ e. absurd (not-fuel d left how e);
-  words = words-out isa max region block fuel s i rest word now d c m left lt is did how reach;
+  words = words-out isa tool max region block fuel s i rest word now d c m left built lt is did how reach;
   seen = seen-out isa tool max region block fuel s i rest word now d c m left built lt is did how reach;
 }
 
@@ -373,6 +384,7 @@ words-on : (isa : Isa) (max : ℕ) (region : Area) (block : Parts) (fuel : ℕ) 
 words-on isa max region block fuel s i rest now more fits is reach = record {
   some = omega arith;
   at_most = fits;
+  there = reach.there;
   went = λ k less. reach.went k (omega (arith, less));
   left =
       let back : suc i - 1 ≡ i = omega arith in

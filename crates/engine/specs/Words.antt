@@ -1,7 +1,9 @@
 -- Words that are done one after the other, by position.
-use Rattle.std.specs.Prelude.{◌≡◌, ℕ, zero, suc, ◌+◌, ◌-◌, ◌<◌, ◌≤◌, ◌==◌, nat_lt, Bool, true, false, if◌then◌else◌, List, [], ◌∷◌, ◌++◌, length, slice_index, Option, Some, None}
+use Rattle.std.specs.Prelude.{◌≡◌, ℕ, zero, suc, ◌+◌, ◌-◌, ◌<◌, ◌≤◌, ◌==◌, nat_lt, Bool, true, false, if◌then◌else◌, List, [], ◌∷◌, ◌++◌, length, slice_index, Option, Some, None, Result, Ok}
 use Rattle.plain_machine.specs.declared.cpu.Done.{Done}
 use Rattle.plain_machine.specs.declared.cpu.Done.TheVariants as done
+use Rattle.plain_machine.specs.declared.access.Access.{Access}
+use Rattle.plain_machine.specs.Memory.{fetched}
 use Rattle.plain_machine.specs.Step.{Outcome, step}
 use Rattle.plain_machine.specs.Machine.{State}
 use Rattle.fragment.specs.declared.Exit.{Exit}
@@ -24,6 +26,10 @@ state_at words s (suc i) = state_after (state_at words s i) (slice_index words i
 -- what word number i did
 abbrev pub done_at : List ℕ → State → ℕ → Done
 done_at words s i = (outcome_in (state_at words s i) (slice_index words i)).0
+
+-- the word that a state does
+abbrev pub word_of : State → Result ℕ Access
+word_of s = fetched s.memory s.cpu.pc
 
 abbrev pub is_first : ℕ → Bool
 is_first zero = true
@@ -54,11 +60,12 @@ left_by exits more done.Asked = left.Asked
 left_by exits more (done.Touched span) = left.Touched span
 left_by exits more (done.Fault kind) = left.Fault kind
 
--- From state s the first n words of the block are done, one at least. All before the last went on to the next; by what
--- the last did the block is left so, in state next.
+-- From state s the first n words of the block are done, one at least, each from memory. All before the last went on to
+-- the next; by what the last did the block is left so, in state next.
 pub record DoesWords (block : Parts) (n : ℕ) (s : State) (how : Left) (next : State) : Type 0 where
   pub some : 0 < n
   pub at_most : n ≤ length block.words
+  pub there : (i : ℕ) → i < n → word_of (state_at block.words s i) ≡ Ok (slice_index block.words i)
   pub went : (i : ℕ) → i + 1 < n → done_at block.words s i ≡ done.Next
   pub left : how ≡ left_by block.exits (nat_lt n (length block.words)) (done_at block.words s (n - 1))
   pub reached : next ≡ state_at block.words s n
