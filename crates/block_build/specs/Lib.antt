@@ -1,2 +1,2 @@
-pub mod View
-pub mod Words
+pub mod Places
+pub mod Making

@@ -1,137 +1,114 @@
 // Builds a block.
-ghost use Rattle.std.specs.Prelude.{◌≡◌, ◌⊎◌, ◌+◌, ◌-◌, ◌*◌, ◌<◌, ◌≤◌, ◌%◌, ◌^◌, true, None, [], ◌∷◌, length, IfOk, IfSome};
-ghost use Rattle.rv_decode.specs.Table.{instruction};
-ghost use Rattle.plain_machine.specs.Cut.{ends_block};
-ghost use Rattle.plain_machine.specs.Step.{offset as offset_of};
-ghost use Rattle.fragment.specs.Build.{word_at, CannotBuild, IsBuilt, exits_of, last};
-ghost use Rattle.block_build.specs.View.{shown};
-ghost use Rattle.block_build.specs.Words.{AreWords};
+ghost use Rattle.std.specs.Prelude.{◌≡◌, ℕ, ◌+◌, ◌*◌, ◌<◌, ◌≤◌, true, [], length, is_some, if◌then◌else◌, IfOk, OnErr};
+ghost use Rattle.fragment.specs.Build.{built, has_word, words_at};
+ghost use Rattle.fragment.specs.Exits.{list_of};
+ghost use Rattle.fragment.specs.Probing.{probes_of};
+ghost use Rattle.fragment.specs.View.{shown};
+ghost use Rattle.block_build.specs.Places.{HasAllPlaces};
 
-use crate::word::word_at;
-use cc_base::CodeView;
-use fragment::{Exit, Fragment};
-use rv_decode::{Ins, Isa, decode};
+use cc_base::{CodeView, Steps};
+use fragment::{Exit, Exits, Fragment, Probe, can_build, class_of, exits_of, word_count, word_in};
+use probe_tools::{Tool, probe_for};
+use rv_decode::{Isa, decode};
 use std::alloc::{AllocError, Global};
+use std::sync::ledger::Ledger;
 
-/// The block at an address of a code, of at most `max` words of this instruction set.
-pub fn build(
+/// The block at an address of a code, of at most `max` words of this instruction set, with the probes of this tool. None
+/// comes exactly where the address is no multiple of four or its word is not wholly in the code; each other answer
+/// counts one step. It takes memory once for each list of the block that has items.
+pub fn build<L: Ledger>(
     alloc: Global,
     code: CodeView<'_>,
     addr: u32,
     isa: Isa,
+    tool: Tool,
     max: u8,
+    steps: &mut Steps<L>,
 ) -> Result<Option<Fragment>, AllocError>
-    requires { 0 < max }
-    ensures none { IfOk result (λ built. built ≡ None → CannotBuild (shown code.entry) addr) }
-    ensures some { IfOk result (λ built. IfSome built (λ block. IsBuilt (shown code.entry) isa max block)) }
-    ensures place { IfOk result (λ built. IfSome built (λ block. block.address ≡ addr)) }
+    requires some { 0 < max }
+    requires most { max ≤ 64 }
+    ensures built { IfOk result (λ block. block ≡ built (shown code.entry) addr isa tool max) }
+    ensures steps { IfOk result (λ block. steps.new ≡ (if is_some block then steps.old + 1 else steps.old)) }
+    ensures err { OnErr result (steps.new ≡ steps.old) }
 {
-    if addr % 4 != 0 {
+    if !can_build(code, addr) {
         return Ok(None);
     }
-    let words = words_from(alloc, code, addr, isa, max)?;
-    let Some(last) = words.last() else {
-        return Ok(None);
-    };
-    let last = *last;
-    let place = addr + 4 * (words.len() as u32 - 1);
-    Ok(Some(with_exits(alloc, addr, &words, place, decode(last, isa))?))
+    let count = word_count(code, addr, isa, max);
+    let words = words_from(alloc, code, addr, count)?;
+    let probes = probes_of(alloc, &words, isa, tool)?;
+    let place = addr + 4 * (u32::from(count) - 1);
+    let last = decode(word_in(code, place), isa);
+    let exits = list_of(alloc, exits_of(place, &last))?;
+    steps.tick();
+    Ok(Some(Fragment::from_parts(addr, words, probes, exits)))
 }
 
-// The words of the block.
+// So many words from an address on.
 fn words_from(
     alloc: Global,
     code: CodeView<'_>,
     addr: u32,
-    isa: Isa,
-    max: u8,
+    count: u8,
 ) -> Result<Vec<u32>, AllocError>
-    requires { 0 < max }
-    ensures words { IfOk result (λ words. AreWords (shown code.entry) isa max addr words.items) }
-    ensures stopped { IfOk result (λ words. (ends_block (instruction isa (last words.items)) ≡ true) ⊎ (length words.items ≡ max)
-        ⊎ (word_at (shown code.entry) (addr + 4 * length words.items) ≡ None)) }
-    ensures none { IfOk result (λ words. length words.items ≡ 0 → word_at (shown code.entry) addr ≡ None) }
+    requires { (i : ℕ) → i < count → has_word (shown code) (addr + 4 * i) ≡ true }
+    ensures { IfOk result (λ words. words.items ≡ words_at (shown code.entry) addr count) }
 {
-    let mut words = Vec::new(alloc);
-    let mut next = addr;
-    for _ in 0..max {
-        let Some(word) = word_at(code, next) else {
-            return Ok(words);
-        };
-        words.push(word)?;
-        if ends_block(decode(word, isa)) {
-            return Ok(words);
-        }
-        next += 4;
+    let mut words = Vec::with_capacity(alloc, usize::from(count))?;
+    for i in 0..count {
+        words.push(word_in(code, addr + 4 * u32::from(i)))?;
     }
     Ok(words)
 }
 
-fn ends_block(ins: Ins) -> bool
-    ensures { result ≡ ends_block ins }
+// The probes of a block of these words.
+fn probes_of(alloc: Global, words: &[u32], isa: Isa, tool: Tool) -> Result<Vec<Probe>, AllocError>
+    requires some { 0 < length words.now }
+    requires most { length words.now ≤ 64 }
+    ensures { IfOk result (λ probes. probes.items ≡ probes_of tool isa words.now) }
 {
-    match ins {
-        Ins::Jal { .. }
-        | Ins::Jalr { .. }
-        | Ins::Beq { .. }
-        | Ins::Bne { .. }
-        | Ins::Blt { .. }
-        | Ins::Bge { .. }
-        | Ins::Bltu { .. }
-        | Ins::Bgeu { .. }
-        | Ins::Ecall
-        | Ins::Ebreak
-        | Ins::None => true,
-        _ => false,
-    }
-}
-
-// The block of these words, the last of which is this instruction and stands at this place.
-fn with_exits(
-    alloc: Global,
-    addr: u32,
-    words: &[u32],
-    place: u32,
-    last: Ins,
-) -> Result<Fragment, AllocError>
-    ensures { IfOk result (λ block. block ≡ record { address = addr; words = words.now; exits = exits_of place last }) }
-{
-    let next = place.wrapping_add(4);
-    match last {
-        Ins::Jal { imm, .. } => {
-            let to = offset(place, imm);
-            Fragment::of(alloc, addr, words, &[Exit::Direct(to)])
+    let (from, to) = places(tool, words.len());
+    let mut probes = room_for(alloc, to - from)?;
+    for place in from..to {
+        let class = class_of(&decode(words[place], isa));
+        if let Some(kind) = probe_for(tool, class, place as u8, place + 1 == words.len()) {
+            probes.push(Probe {
+                place: place as u8,
+                kind,
+            })?;
         }
-        Ins::Beq { imm, .. } => branch(alloc, addr, words, place, imm),
-        Ins::Bne { imm, .. } => branch(alloc, addr, words, place, imm),
-        Ins::Blt { imm, .. } => branch(alloc, addr, words, place, imm),
-        Ins::Bge { imm, .. } => branch(alloc, addr, words, place, imm),
-        Ins::Bltu { imm, .. } => branch(alloc, addr, words, place, imm),
-        Ins::Bgeu { imm, .. } => branch(alloc, addr, words, place, imm),
-        Ins::Jalr { .. } => Fragment::of(alloc, addr, words, &[Exit::Indirect]),
-        Ins::Ecall => Fragment::of(alloc, addr, words, &[Exit::Asks(next)]),
-        Ins::Ebreak | Ins::None => Fragment::of(alloc, addr, words, &[Exit::Stop]),
-        _ => Fragment::of(alloc, addr, words, &[Exit::Direct(next)]),
+    }
+    Ok(probes)
+}
+
+// Room for so many probes. One alone finds its room when it comes.
+fn room_for(alloc: Global, count: usize) -> Result<Vec<Probe>, AllocError>
+    ensures { IfOk result (λ probes. probes.items ≡ []) }
+{
+    if count > 1 {
+        Vec::with_capacity(alloc, count)
+    } else {
+        Ok(Vec::new(alloc))
     }
 }
 
-// The block of these words, the last of which is a branch.
-fn branch(
-    alloc: Global,
-    addr: u32,
-    words: &[u32],
-    place: u32,
-    imm: i32,
-) -> Result<Fragment, AllocError>
-    ensures { IfOk result (λ block. block ≡ record { address = addr; words = words.now; exits = Exit.Direct (offset_of place imm) ∷ Exit.Direct ((place + 4) % 2 ^ 32) ∷ [] }) }
+// The places at which the tool may have probes in a block of so many words.
+fn places(tool: Tool, count: usize) -> (usize, usize)
+    requires { 0 < count }
+    ensures { HasAllPlaces tool count result.0 result.1 }
 {
-    let taken = Exit::Direct(offset(place, imm));
-    let next = Exit::Direct(place.wrapping_add(4));
-    Fragment::of(alloc, addr, words, &[taken, next])
+    match tool {
+        Tool::Blocks => (0, 1),
+        Tool::Calls => (count - 1, count),
+        Tool::Memory => (0, count),
+    }
 }
 
-fn offset(base: u32, imm: i32) -> u32
-    ensures { result ≡ offset_of base imm }
+fn list_of(alloc: Global, exits: Exits) -> Result<Vec<Exit>, AllocError>
+    ensures { IfOk result (λ list. list.items ≡ list_of exits) }
 {
-    base.wrapping_add(imm.cast_unsigned())
+    match exits.second {
+        None => Ok(vec![in alloc; exits.first]?),
+        Some(second) => Ok(vec![in alloc; exits.first, second]?),
+    }
 }

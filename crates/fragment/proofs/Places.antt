@@ -116,3 +116,7 @@ stands_there tool isa words i kind probes next is h within front all =
     let size : length (probes_before tool isa words i) ≡ next = ap length (sym front) ∙ length-take-le next probes within in
     let probe : Probe = record { place = i; kind = kind } in
     subst (λ ps. IsNext ps next probe) (sym all) (subst (λ k. IsNext (probes_of tool isa words) k probe) size (next_probe tool isa words i kind h is))
+
+pub before_more_some : (tool : Tool) (isa : Isa) (words : List ℕ) (i : ℕ) (kind : ProbeKind) → probe_at tool isa words i ≡ Some kind →
+    probes_before tool isa words (i + 1) ≡ probes_before tool isa words i ++ record { place = i; kind = kind } ∷ []
+before_more_some tool isa words i kind is = before-more tool isa words i ∙ ap (λ o. probes_before tool isa words i ++ placed i o) is

@@ -1,20 +1,14 @@
-use Rattle.std.proofs.Common.{◌≡◌, ◌+◌, ◌*◌, [], ◌∷◌, length, Some, false, arith, length-append, sym}
-use Rattle.rv_decode.specs.Table.{instruction}
-use Rattle.plain_machine.specs.Cut.{ends_block}
-use Rattle.fragment.specs.Build.{word_at}
-use Rattle.block_build.specs.View.{shown}
-use Rattle.block_build.proofs.WordsMore.{all_go_on, words_more}
+use Rattle.std.proofs.Common.{◌≡◌, ◌+◌, ◌*◌, [], ◌∷◌, ◌++◌, sym, ◌∙◌, ap, arith}
+use Rattle.std.proofs.lemmas.List.FromFn.{map-range_with_len_more}
+use Rattle.fragment.specs.Build.{word_in, words_at}
+use Rattle.fragment.specs.View.{shown}
 use Rattle.block_build.proofs.builder.words_from.Goals as goal
 
-pub loop-preserved : goal.loop-preserved
-loop-preserved c =
-    let inv = c.loop.invariant in
-    let here : word_at (shown c.args.code) (c.args.addr + 4 * length c.loop.words.items) ≡ Some c.in-Some.word
-    = rw (← inv.next) (sym c.in-Some.ensures.value) in
-    let goes_on : ends_block (instruction c.args.isa c.in-Some.word) ≡ false = cc in
-    rw c.in_ok-push.ensures.items (record {
-      words = words_more _ _ _ _ _ _ inv.words inv.all_inner (omega arith) here;
-      next = omega (arith, length-append c.loop.words.items (c.in-Some.word ∷ []));
-      count = omega (arith, length-append c.loop.words.items (c.in-Some.word ∷ []));
-      all_inner = all_go_on _ _ _ inv.all_inner goes_on;
-    })
+pub loop-i-preserved : goal.loop-i-preserved
+loop-i-preserved c =
+    let word : c.word_in.result ≡ word_in (shown c.args.code) (c.args.addr + 4 * c.loop-i.i) =
+    c.word_in.ensures ∙ ap (λ k. word_in (shown c.args.code) (c.args.addr + 4 * k)) c.from-in-loop-i.ensures in
+    rw c.in_ok-push.ensures.items (
+    ap (λ ws. ws ++ c.word_in.result ∷ []) c.loop-i.invariant
+    ∙ ap (λ w. words_at (shown c.args.code) c.args.addr c.loop-i.i ++ w ∷ []) word
+    ∙ sym (map-range_with_len_more (λ k. word_in (shown c.args.code) (c.args.addr + 4 * k)) 0 c.loop-i.i c.loop-i.i (omega arith)))
