@@ -11,3 +11,4 @@ pub mod Run
 pub mod Cut
 pub mod Own
 pub mod Events
+pub mod Plain
