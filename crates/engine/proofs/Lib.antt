@@ -1,9 +1,9 @@
-mod KeptCode
-mod Steps
-mod Stored
-mod Starts
-mod Path
-mod Reach
-mod Probes
-mod Counting
-mod Loop
+pub mod KeptCode
+pub mod Steps
+pub mod Stored
+pub mod Starts
+pub mod Path
+pub mod Reach
+pub mod Probes
+pub mod Counting
+pub mod Loop

@@ -1,1 +1,5 @@
 pub mod Plain
+pub mod Known
+pub mod Answer
+pub mod Moves
+pub mod Ready

@@ -4,8 +4,14 @@
 //! wrote and its report are those of its plain run, whose map answers are those that its own calls make them.
 #![tactic(auto)]
 
+mod blocks;
+mod calls;
 mod guest;
+mod process;
 mod run;
+mod step;
 
+pub use calls::answer;
 pub use guest::{Module, Ran, Setup};
+pub use process::{Process, start};
 pub use run::run_guest;

@@ -1,0 +1,4 @@
+mod Called
+mod Fetching
+mod Knowing
+mod Behind
