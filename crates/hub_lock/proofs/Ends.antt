@@ -7,7 +7,7 @@ use native.Mathlib.Decide.{ℕ_discrete, dec_le}
 use lib.ListN.{get_elem?}
 use Rattle.atomic_table.specs.Table.{opening, Final, Seen}
 use Rattle.atomic_table.proofs.Lists.{at_snoc}
-use Rattle.hub_lock.specs.Places.{total, times, between}
+use Rattle.hub_lock.specs.Places.{all_parts, total, times, between}
 use Rattle.hub_lock.specs.Stages.{has_turn}
 use Rattle.hub_lock.specs.Rule.{turn_count, IsSpent, IsUnspent, Fits, Orderly}
 use Rattle.hub_lock.specs.Steps.{beginner, spent}
@@ -38,7 +38,7 @@ module _ {T O E : Type 0} {opens : T → O} {journal : T → List E} {rule : Lis
       record { log = []; wide = refl; tall = refl; kept = whole base }
 
   -- a seat with all parts is the only one left: the value is home, and each place is its own
-  pub closes : (id : ℕ) (v : View O E) (ws : List ℕ) (xs : List (Option T)) → v.parts ≡ 4294967296 → v.stage ≡ Outside → Final (Seen (Orderly opens journal rule o) id v) ws xs
+  pub closes : (id : ℕ) (v : View O E) (ws : List ℕ) (xs : List (Option T)) → v.parts ≡ all_parts → v.stage ≡ Outside → Final (Seen (Orderly opens journal rule o) id v) ws xs
       → (x : T) × (get_elem? xs 0 ≡ some (Some x)) × (v.opening ≡ Some (opens x)) × (journal x ≡ v.seen) × ((p : ℕ) → times p v.own ≡ between p 0 (length v.seen)) × (length xs ≡ 1)
   closes id v ws xs all v_out final =
       let s = final.0 in

@@ -1,7 +1,8 @@
 -- Entries of a journal, by their places.
-use Rattle.std.proofs.Common.{◌≡◌, ℕ, zero, suc, ◌+◌, ◌-◌, ◌<◌, ◌≤◌, List, [], ◌∷◌, ◌++◌, length, sym, refl, ap, ◌∙◌, subst, inl, inr, arith, cond, nat_lt, lt-ltb, le-ltb, le_refl, length-append, Bool, true, false}
+use Rattle.std.proofs.Common.{◌≡◌, ℕ, zero, suc, ◌+◌, ◌-◌, ◌<◌, ◌≤◌, List, [], ◌∷◌, ◌++◌, length, sym, refl, ap, ◌∙◌, subst, inl, inr, arith, cond, nat_lt, lt-ltb, le-ltb, le_refl, length-append, get_or, ⊎_elim, Bool, true, false}
 use mathlib.Core.Logic.{dite}
 use native.Mathlib.Decide.{dec_le}
+use Rattle.std.specs.List.{Contains}
 use Rattle.hub_lock.specs.Merge.{IsMerged}
 use Rattle.hub_lock.specs.Places.{only, times, between, pick, picked, mine, others, StartsWith, IsWithin, longer, shorter}
 use Rattle.hub_lock.proofs.Sums.{total-append, only-same, only-other, between-in}
@@ -175,3 +176,25 @@ module _ {E : Type 0} where
       go : (k : ℕ) (es : List E) → IsMerged es (picked (λ p. times p own) k es) (picked (λ p. 1 - times p own) k es)
       go k [] = (refl, refl)
       go k (e ∷ es) = at (times k own) (1 - times k own) refl e _ _ _ (go (suc k) es)
+
+  behind : (z : E) (zs : List E) (e : E) → Contains zs e → Contains (z ∷ zs) e
+  behind z zs e h = (suc h.0, omega (arith, h.1), h.2)
+
+  first_or : (z : E) (zs rest : List E) (e : E) → (Contains rest e → Contains zs e) → Contains (z ∷ rest) e → Contains (z ∷ zs) e
+  first_or z zs rest e later h = at h.0 h.1 h.2
+    where
+      at : (k : ℕ) → k < length (z ∷ rest) → get_or (z ∷ rest) k e ≡ e → Contains (z ∷ zs) e
+      at zero below is = (0, omega arith, is)
+      at (suc k) below is = behind z zs e (later (k, omega arith, is))
+
+  -- an entry of a list stands in what it was put together to
+  in_merged : (e : E) (zs xs ys : List E) → IsMerged zs xs ys → Contains xs e → Contains zs e
+  in_merged e [] xs ys m h = subst (λ l. Contains l e) m.0 h
+  in_merged e (z ∷ zs) xs ys m h = ⊎_elim
+      (λ (t : (rest : List E) × (xs ≡ z ∷ rest) × IsMerged zs rest ys). first_or z zs t.0 e (in_merged e zs t.0 ys t.2) (subst (λ l. Contains l e) t.1 h))
+      (λ (t : (rest : List E) × (ys ≡ z ∷ rest) × IsMerged zs xs rest). behind z zs e (in_merged e zs xs t.0 t.2 h))
+      m
+
+  -- an entry of one's own stands in the journal
+  pub own_in : (log : List E) (own : List ℕ) (e : E) → Contains (mine log own) e → Contains log e
+  own_in log own e h = in_merged e log _ _ (own_and_others log own) h

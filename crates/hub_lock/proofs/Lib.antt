@@ -6,5 +6,6 @@ pub mod Turns
 pub mod Commits
 pub mod Parts
 pub mod Ends
+pub mod Exclusive
 pub mod SeatStates
 pub mod Calls

@@ -7,21 +7,40 @@ use Rattle.atomic_table.specs.Seated.{TableId}
 use Rattle.hub_lock.specs.Merge.{IsMerged}
 use Rattle.hub_lock.specs.Places.{times, mine, others, StartsWith, IsWithin, longer, shorter}
 use Rattle.hub_lock.specs.Stages.{ticket_of, is_inside}
-use Rattle.hub_lock.specs.Steps.{Pass, view, staged, joined, own_after, Took, IsPosed, IsSound, IsOutside, MayCommit}
-use Rattle.hub_lock.specs.Seats.{seat_state, Joins, Enters, MayLeave, Leaves}
+use Rattle.hub_lock.specs.Steps.{Pass, view, staged, joined, own_after, Took, IsSettled, IsSound, IsOutside, MayCommit}
+use Rattle.hub_lock.specs.Seats.{SeatState, seat_state, both, inside_with, own_entries, MayLeave, Leaves}
 use Rattle.hub_lock.specs.declared.view.View.{View}
 use Rattle.hub_lock.specs.declared.view.Stage.{Stage}
 use Rattle.hub_lock.specs.declared.view.Stage.TheVariants.{Outside, Waits, Inside}
 use Rattle.hub_lock.proofs.Entries.{times-both, picked-merge, mine-push, mine-longer, within-push, within-longer, starts_same, longer_starts, shorter_le}
-use Rattle.hub_lock.proofs.Stages.{posed_out, posed_in}
+use Rattle.hub_lock.proofs.Stages.{settled_out, settled_in}
 use Rattle.hub_lock.proofs.Commits.{item_of, item_or, item_at}
+
+-- what `join` tells: the seat s took in the seat u, and is then n
+pub record Joins {O E : Type 0} (s u n : SeatState O E) : Type 0 where
+  pub is : n ≡ both s u
+  pub later : StartsWith n.seen s.seen × StartsWith n.seen u.seen
+  pub apart : (p : ℕ) → times p s.own + times p u.own ≤ 1
+  pub within : IsWithin n.seen n.own
+  pub kept : (mine n.seen s.own ≡ own_entries s) × (mine n.seen u.own ≡ own_entries u)
+  pub entries : IsMerged (own_entries n) (own_entries s) (own_entries u)
+
+-- what `enter` tells: the seat s came inside with the value x, and is then n
+pub record Enters {T O E : Type 0} (opens : T → O) (journal : T → List E) (rule : List E → Type 0) (s : SeatState O E) (x : T) (n : SeatState O E) : Type 0 where
+  pub inside : n ≡ inside_with s (journal x)
+  pub opening : s.opening ≡ Some (opens x)
+  pub later : StartsWith n.seen s.seen
+  pub within : IsWithin n.seen n.own
+  pub entries : own_entries n ≡ own_entries s
+  pub own_ruled : rule (own_entries n)
+  pub rest_ruled : rule (others n.seen n.own)
 
 module _ {T O E : Type 0} where
   pub out_of : (m : Pass T O E) → IsSound m → is_inside m.0.stage ≡ false → IsOutside m
-  out_of m h e = let p = posed_out m.0.stage m.1 h.posed e in (p.0, p.1, h.part)
+  out_of m h e = let p = settled_out m.0.stage m.1 h.settled e in (p.0, p.1, h.part)
 
   pub in_of : (m : Pass T O E) → IsSound m → is_inside m.0.stage ≡ true → (m.0.stage ≡ Inside (ticket_of m.0.stage)) × (m.1 ≡ (0, None) ∷ [])
-  in_of m h e = posed_in m.0.stage m.1 h.posed e
+  in_of m h e = settled_in m.0.stage m.1 h.settled e
 
   -- slot 0 is held, and its value is with the caller
   abbrev emptied : Pass T O E → Pass T O E
@@ -52,12 +71,11 @@ module _ {T O E : Type 0} where
         let later : StartsWith (journal x) m.0.seen = subst (λ (l : List E × List E). StartsWith l.0 l.1) (λ i. (journal (same i), (drawn i).0.seen)) took.3 in
         let within : IsWithin (journal x) m.0.own = within-longer (journal x) m.0.seen m.0.own later sound.within in
         subst (λ (n : Pass T O E). IsSound n × Enters opens journal rule (seat_state z m) x (seat_state z' n)) (sym now) (
-          record { part = sound.part; posed = refl; within = within },
+          record { opened = sound.opened; part = sound.part; settled = refl; within = within },
           record {
-            inside = (same_turn, refl);
-            value = (ap (λ (n : Pass T O E). n.0.opening) (sym drawn) ∙ (took.2 ∙ ap (λ a. Some (opens a)) same), refl);
+            inside = λ i. record { turn = same_turn i; opening = m.0.opening; seen = journal x; own = m.0.own; parts = m.0.parts; inside = true };
+            opening = ap (λ (n : Pass T O E). n.0.opening) (sym drawn) ∙ (took.2 ∙ ap (λ a. Some (opens a)) same);
             later = later;
-            same = (refl, refl, refl);
             within = within;
             entries = mine-longer (journal x) m.0.seen m.0.own later sound.within;
             own_ruled = subst (λ (l : List E × List ℕ). rule (mine l.0 l.1)) (λ i. (journal (same i), (drawn i).0.own)) took.5;
@@ -97,14 +115,14 @@ module _ {T O E : Type 0} where
 
         as_seen : (added : Bool) → MayLeave journal rule (seat_state z m) x added → IsSound (gone journal m x added) × Leaves journal (seat_state z m) x added (seat_state z' (gone journal m x added))
         as_seen false may = (
-          record { part = sound.part; posed = refl; within = subst (λ l. IsWithin l m.0.own) (sym may) sound.within },
+          record { opened = sound.opened; part = sound.part; settled = refl; within = subst (λ l. IsWithin l m.0.own) (sym may) sound.within },
           λ i. record { turn = same_turn i; opening = m.0.opening; seen = may i; own = m.0.own; parts = m.0.parts; inside = false },
         )
         as_seen true may =
             let e : E = may.0 in
             let own : List ℕ = m.0.own ++ length m.0.seen ∷ [] in
             let within : IsWithin (journal x) own = subst (λ l. IsWithin l own) (sym may.1) (within-push m.0.seen m.0.own e sound.within) in (
-              record { part = sound.part; posed = refl; within = within },
+              record { opened = sound.opened; part = sound.part; settled = refl; within = within },
               (
                 e,
                 may.1,
@@ -139,7 +157,7 @@ module _ {T O E : Type 0} where
       let y = mine-longer long u.0.seen u.0.own later.1 sound_u.within in
       let together = picked-merge (λ p. times p m.0.own) (λ p. times p u.0.own) (λ p. times p own) 0 long sums apart in
       subst (λ (n : Pass T O E). IsSound n × Joins (seat_state z m) (seat_state zu u) (seat_state z' n)) (sym now) (
-        record { part = omega (arith, sound.part); posed = subst (λ st. IsPosed st m.1) (sym out.0) out.1; within = within },
+        record { opened = sound.opened; part = omega (arith, sound.part); settled = subst (λ st. IsSettled st m.1) (sym out.0) out.1; within = within },
         record {
           is = λ i. record { turn = same_turn i; opening = m.0.opening; seen = long; own = own; parts = m.0.parts + u.0.parts; inside = is_inside m.0.stage };
           later = later;

@@ -3,7 +3,7 @@ use Rattle.std.proofs.Common.{◌≡◌, ℕ, ◌≤◌, List, [], ◌∷◌, ap
 use Rattle.std.specs.Prelude.{Option}
 use Rattle.hub_lock.specs.Places.{only}
 use Rattle.hub_lock.specs.Stages.{has_ticket, has_turn, has_added, ticket_of, is_inside, Serves}
-use Rattle.hub_lock.specs.Steps.{IsPosed}
+use Rattle.hub_lock.specs.Steps.{IsSettled}
 use Rattle.hub_lock.specs.declared.view.Stage.{Stage}
 use Rattle.hub_lock.specs.declared.view.Stage.TheVariants.{Outside, Waits, Inside, Added}
 use Rattle.hub_lock.proofs.Sums.{only-same}
@@ -46,14 +46,14 @@ module _ {E : Type 0} (log : List E) (serving : ℕ) (seen : List E) where
 
 module _ {T : Type 0} where
   -- a seat between two calls is outside, or inside with its ticket
-  pub posed_out : (st : Stage) (held : List (ℕ × Option T)) → IsPosed st held → is_inside st ≡ false → (st ≡ Outside) × (held ≡ [])
-  posed_out Outside held h e = (refl, h)
-  posed_out (Waits n) held h e = absurd h
-  posed_out (Inside n) held h e = absurd (true≢false e)
-  posed_out (Added n) held h e = absurd h
+  pub settled_out : (st : Stage) (held : List (ℕ × Option T)) → IsSettled st held → is_inside st ≡ false → (st ≡ Outside) × (held ≡ [])
+  settled_out Outside held h e = (refl, h)
+  settled_out (Waits n) held h e = absurd h
+  settled_out (Inside n) held h e = absurd (true≢false e)
+  settled_out (Added n) held h e = absurd h
 
-  pub posed_in : (st : Stage) (held : List (ℕ × Option T)) → IsPosed st held → is_inside st ≡ true → (st ≡ Inside (ticket_of st)) × (held ≡ (0, None) ∷ [])
-  posed_in Outside held h e = absurd (true≢false (sym e))
-  posed_in (Waits n) held h e = absurd h
-  posed_in (Inside n) held h e = (refl, h)
-  posed_in (Added n) held h e = absurd h
+  pub settled_in : (st : Stage) (held : List (ℕ × Option T)) → IsSettled st held → is_inside st ≡ true → (st ≡ Inside (ticket_of st)) × (held ≡ (0, None) ∷ [])
+  settled_in Outside held h e = absurd (true≢false (sym e))
+  settled_in (Waits n) held h e = absurd h
+  settled_in (Inside n) held h e = (refl, h)
+  settled_in (Added n) held h e = absurd h

@@ -9,7 +9,7 @@ use lib.ListN.{get_elem?}
 use lib.Seq.{set-get_or}
 use Rattle.atomic_table.specs.Table.{State}
 use Rattle.atomic_table.proofs.Lists.{at_set}
-use Rattle.hub_lock.specs.Places.{times, between, mine}
+use Rattle.hub_lock.specs.Places.{all_parts, times, between, mine}
 use Rattle.hub_lock.specs.Stages.{has_ticket, has_turn, has_added, Serves}
 use Rattle.hub_lock.specs.Rule.{ticket_count, turn_count, added_count, own_count, part_count, IsSpent, IsUnspent, Fits, IsSeen, IsHome, IsOut, Keeps, Orderly}
 use Rattle.hub_lock.specs.Steps.{staged, spent}
@@ -33,12 +33,12 @@ pub record Base {T O E : Type 0} (opens : T → O) (journal : T → List E) (rul
   pub out : turn_count views ≡ 1 → IsOut homes
   pub behind : count ≤ serving + added_count views
   pub owned : (p : ℕ) → own_count p views ≡ between p 0 (length log)
-  pub parts : part_count views ≡ 4294967296
+  pub parts : part_count views ≡ all_parts
   pub each_seat : (j : ℕ) (v : View O E) → get_elem? views j ≡ some v → Fits rule o log serving v
 
 module _ {O E : Type 0} (rule : List E → Type 0) (o : O) where
   -- the seat that owns the last place has seen the whole journal
-  longest_of : (log : List E) (serving : ℕ) (views : List (View O E)) → ((p : ℕ) → own_count p views ≡ between p 0 (length log)) → part_count views ≡ 4294967296
+  longest_of : (log : List E) (serving : ℕ) (views : List (View O E)) → ((p : ℕ) → own_count p views ≡ between p 0 (length log)) → part_count views ≡ all_parts
       → ((j : ℕ) (v : View O E) → get_elem? views j ≡ some v → Fits rule o log serving v) → IsSeen log views
   longest_of [] serving views owned parts each =
       let t = some_term (λ v. v.parts) views (omega arith) in

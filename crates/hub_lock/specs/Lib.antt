@@ -1,3 +1,4 @@
+pub mod Laws
 pub mod Merge
 pub mod Moves
 pub mod Places

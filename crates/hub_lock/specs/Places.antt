@@ -1,6 +1,10 @@
 -- The entries of a journal by their places. The first entry has the place 0.
 use Rattle.std.specs.Prelude.{◌≡◌, ℕ, zero, suc, ◌+◌, ◌-◌, ◌≤◌, List, [], ◌∷◌, ◌++◌, cond, ◌==◌, nat_lt, length}
 
+-- the parts of all seats of a turn together
+abbrev pub all_parts : ℕ
+all_parts = 4294967296
+
 -- the sum of f over a list
 abbrev pub total : {A : Type 0} → (A → ℕ) → List A → ℕ
 total f [] = 0

@@ -5,7 +5,7 @@ use mathlib.Core.Option.{some, none}
 use mathlib.Core.Option as maybe
 use lib.ListN.{get_elem?}
 use Rattle.atomic_table.specs.Table.{State}
-use Rattle.hub_lock.specs.Places.{total, times, between, mine, StartsWith, IsWithin}
+use Rattle.hub_lock.specs.Places.{all_parts, total, times, between, mine, StartsWith, IsWithin}
 use Rattle.hub_lock.specs.Stages.{has_ticket, has_turn, has_added, Serves}
 use Rattle.hub_lock.specs.declared.view.View.{View}
 use Rattle.hub_lock.specs.declared.view.Stage.TheVariants.{Outside}
@@ -58,7 +58,7 @@ module _ {O E : Type 0} where
     pub serves : Serves log serving v.seen v.stage
     -- its own entries meet the rule that the value states
     pub ruled : rule (mine log v.own)
-    -- what a seat that it took in had seen is a beginning of the journal
+    -- after a join, the shorter of what the two had seen is a beginning of the journal
     pub told : StartsWith log v.told
 
   -- some seat has seen the whole journal
@@ -89,7 +89,7 @@ module _ {O E : Type 0} where
       -- each place below word 0 is one seat's own, once, and no other place is
       pub owned : (p : ℕ) → own_count p views ≡ between p 0 (length log)
       -- so a seat with all parts is the only one left
-      pub parts : part_count views ≡ 4294967296
+      pub parts : part_count views ≡ all_parts
       pub each_seat : (j : ℕ) (v : View O E) → get_elem? views j ≡ some v → Fits rule o log serving v
 
     -- the rule of the table

@@ -1,8 +1,7 @@
 -- A seat as its holder sees it, and what each call makes of it.
-use Rattle.std.specs.Prelude.{◌≡◌, ℕ, ◌+◌, ◌-◌, ◌≤◌, List, [], ◌∷◌, ◌++◌, length, Option, Some, Bool, true, false}
+use Rattle.std.specs.Prelude.{◌≡◌, ℕ, ◌+◌, ◌-◌, List, [], ◌∷◌, ◌++◌, length, Option, Some, Bool, true, false}
 use Rattle.atomic_table.specs.Seated.{TableId}
-use Rattle.hub_lock.specs.Places.{times, mine, others, StartsWith, IsWithin, longer}
-use Rattle.hub_lock.specs.Merge.{IsMerged}
+use Rattle.hub_lock.specs.Places.{all_parts, mine, StartsWith, IsWithin, longer}
 use Rattle.hub_lock.specs.Stages.{is_inside}
 use Rattle.hub_lock.specs.Steps.{Pass}
 
@@ -21,7 +20,7 @@ module _ {O E : Type 0} where
 
   -- the first seat of a turn
   abbrev pub first_seat : TableId → O → SeatState O E
-  first_seat turn o = record { turn = turn; opening = Some o; seen = []; own = []; parts = 4294967296; inside = false }
+  first_seat turn o = record { turn = turn; opening = Some o; seen = []; own = []; parts = all_parts; inside = false }
 
   -- a seat that gave one part away
   abbrev pub one_part_less : SeatState O E → SeatState O E
@@ -31,6 +30,10 @@ module _ {O E : Type 0} where
   abbrev pub split_from : SeatState O E → SeatState O E
   split_from s = record s { own = []; parts = 1; inside = false }
 
+  -- the seat inside, which has seen the whole journal
+  abbrev pub inside_with : SeatState O E → List E → SeatState O E
+  inside_with s journal = record s { seen = journal; inside = true }
+
   -- the longer of what both have seen, the places of both, and the parts of both
   abbrev pub both : SeatState O E → SeatState O E → SeatState O E
   both s u = record s { seen = longer s.seen u.seen; own = s.own ++ u.own; parts = s.parts + u.parts }
@@ -38,19 +41,6 @@ module _ {O E : Type 0} where
   -- the entries that are the seat's own, in the order of the journal
   abbrev pub own_entries : SeatState O E → List E
   own_entries s = mine s.seen s.own
-
-  -- the seat s took in the seat u, and is then n
-  pub record Joins (s u n : SeatState O E) : Type 0 where
-    pub is : n ≡ both s u
-    -- what it has seen begins with what each of the two had
-    pub later : StartsWith n.seen s.seen × StartsWith n.seen u.seen
-    -- the two shared no place
-    pub apart : (p : ℕ) → times p s.own + times p u.own ≤ 1
-    -- it has seen each entry that is its own
-    pub within : IsWithin n.seen n.own
-    -- the places of each are still those of the same entries, and together the entries are its own
-    pub kept : (mine n.seen s.own ≡ own_entries s) × (mine n.seen u.own ≡ own_entries u)
-    pub entries : IsMerged (own_entries n) (own_entries s) (own_entries u)
 
   -- the seat s, whose call added the entry e behind those before it, is then n
   pub record Adds (s : SeatState O E) (before : List E) (e : E) (n : SeatState O E) : Type 0 where
@@ -72,19 +62,6 @@ module _ {O E : Type 0} where
     pub entries : own_entries n ≡ own_entries s
 
   module _ {T : Type 0} where
-    -- the seat s came inside with the value x, and is then n
-    pub record Enters (opens : T → O) (journal : T → List E) (rule : List E → Type 0) (s : SeatState O E) (x : T) (n : SeatState O E) : Type 0 where
-      pub inside : (n.turn ≡ s.turn) × (n.inside ≡ true)
-      -- the value has the seat's opening, and its journal is what the seat has now seen
-      pub value : (n.opening ≡ Some (opens x)) × (n.seen ≡ journal x)
-      pub later : StartsWith n.seen s.seen
-      pub same : (n.opening ≡ s.opening) × (n.own ≡ s.own) × (n.parts ≡ s.parts)
-      pub within : IsWithin n.seen n.own
-      pub entries : own_entries n ≡ own_entries s
-      -- the entries that are the seat's own meet the rule, and those that are not
-      pub own_ruled : rule (own_entries n)
-      pub rest_ruled : rule (others n.seen n.own)
-
     -- what a seat may give back: the journal that was taken, or that with one entry more, which the seat may have as its own
     abbrev pub MayLeave : (T → List E) → (List E → Type 0) → SeatState O E → T → Bool → Type 0
     MayLeave journal rule s x false = journal x ≡ s.seen

@@ -1,8 +1,8 @@
 -- What each step on the table makes of a seat, and what it tells.
-use Rattle.std.specs.Prelude.{◌≡◌, ◌≢◌, ℕ, ◌+◌, ◌-◌, ◌<◌, ◌≤◌, List, [], ◌∷◌, ◌++◌, length, Option, Some, None, Bool, true, false}
+use Rattle.std.specs.Prelude.{◌≡◌, ◌≢◌, ℕ, ◌+◌, ◌-◌, ◌<◌, ◌≤◌, List, [], ◌∷◌, ◌++◌, length, Option, Some, None, IsSome, Bool, true, false}
 use Rattle.atomic_table.specs.Table.{Me, Step, rest}
-use Rattle.hub_lock.specs.Places.{times, mine, others, StartsWith, IsWithin, longer, shorter}
-use Rattle.hub_lock.specs.Stages.{ticket_of}
+use Rattle.hub_lock.specs.Places.{all_parts, times, mine, others, StartsWith, IsWithin, longer, shorter}
+use Rattle.hub_lock.specs.Stages.{ticket_of, has_turn}
 use Rattle.hub_lock.specs.declared.view.View.{View}
 use Rattle.hub_lock.specs.declared.view.Stage.{Stage}
 use Rattle.hub_lock.specs.declared.view.Stage.TheVariants.{Outside, Waits, Inside, Added}
@@ -12,11 +12,11 @@ abbrev pub Pass : Type 0 → Type 0 → Type 0 → Type 0
 Pass T O E = Me (Option T) (View O E)
 
 -- between two calls a seat is outside and holds nothing, or it is inside and holds slot 0, whose value its caller has
-abbrev pub IsPosed : {T : Type 0} → Stage → List (ℕ × Option T) → Type 0
-IsPosed Outside held = held ≡ []
-IsPosed (Waits n) held = ⊥
-IsPosed (Inside n) held = held ≡ (0, None) ∷ []
-IsPosed (Added n) held = ⊥
+abbrev pub IsSettled : {T : Type 0} → Stage → List (ℕ × Option T) → Type 0
+IsSettled Outside held = held ≡ []
+IsSettled (Waits n) held = ⊥
+IsSettled (Inside n) held = held ≡ (0, None) ∷ []
+IsSettled (Added n) held = ⊥
 
 module _ {O E : Type 0} where
   -- the view with these fields
@@ -29,7 +29,7 @@ module _ {O E : Type 0} where
 
   -- make: the first seat of a new turn
   abbrev pub beginner : O → View O E
-  beginner o = view (Some o) [] [] 4294967296 Outside []
+  beginner o = view (Some o) [] [] all_parts Outside []
 
   -- split: the old seat has one part less, and the new one has it, with what was seen
   abbrev pub left_with : View O E → View O E
@@ -38,7 +38,7 @@ module _ {O E : Type 0} where
   abbrev pub parted : View O E → View O E
   parted v = view v.opening v.seen [] 1 Outside []
 
-  -- join: one seat has what both had, and the other is spent
+  -- join: one seat has what both had, and is told the shorter of what the two had seen. The other is spent
   abbrev pub joined : View O E → View O E → View O E
   joined v w = view v.opening (longer v.seen w.seen) (v.own ++ w.own) (v.parts + w.parts) v.stage (shorter v.seen w.seen)
 
@@ -70,6 +70,10 @@ module _ {O E : Type 0} where
     committed journal st m found n = (x : T) → m.1 ≡ (0, Some x) ∷ []
         → n ≡ (view m.0.opening (journal x) (m.0.own ++ length m.0.seen ∷ []) m.0.parts (Added (ticket_of m.0.stage)) m.0.told, m.1)
 
+    -- commit: the seat has the turn, has seen the journal of the value x, and has the place of its new entry where one was added
+    abbrev pub HasCommitted : (T → List E) → Pass T O E → T → Bool → Pass T O E → Type 0
+    HasCommitted journal m x added n = (has_turn n.0.stage ≡ 1) × (n ≡ (view m.0.opening (journal x) (own_after m.0 added) m.0.parts n.0.stage m.0.told, m.1))
+
     -- pass on: the seat is outside, and has given back the slot
     abbrev pub passed : Step (Option T) → Pass T O E → ℕ → Pass T O E → Type 0
     passed st m found n = n ≡ (staged m.0 Outside, rest m.1)
@@ -78,10 +82,11 @@ module _ {O E : Type 0} where
     abbrev pub checked : Step (Option T) → Pass T O E → ℕ → Pass T O E → Type 0
     checked st m found n = (n ≡ m) × (length m.0.told ≤ length m.0.seen → StartsWith m.0.seen m.0.told) × ((p : ℕ) → times p m.0.own ≤ 1)
 
-    -- what is true of each seat between two calls
+    -- what is true of each seat between two calls: it has the value's opening and a part, and has seen what is its own
     pub record IsSound (m : Pass T O E) : Type 0 where
+      pub opened : IsSome m.0.opening
       pub part : 0 < m.0.parts
-      pub posed : IsPosed m.0.stage m.1
+      pub settled : IsSettled m.0.stage m.1
       pub within : IsWithin m.0.seen m.0.own
 
     abbrev pub IsOutside : Pass T O E → Type 0

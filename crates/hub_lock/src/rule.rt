@@ -60,9 +60,9 @@ impl<T, O, E> Play<Option<T>, View<O, E>> for PassOn {
 }
 
 /// Split: a new seat gets one part.
-pub struct Part;
+pub struct SplitOff;
 
-impl<O, E> Split<View<O, E>> for Part {
+impl<O, E> Split<View<O, E>> for SplitOff {
     ghost use Rattle.hub_lock.specs.Steps.{left_with, parted};
 
     ghost left = { left_with };
@@ -71,9 +71,9 @@ impl<O, E> Split<View<O, E>> for Part {
 }
 
 /// Join: one seat gets all that the other has.
-pub struct Both;
+pub struct TakeIn;
 
-impl<O, E> Join<View<O, E>> for Both {
+impl<O, E> Join<View<O, E>> for TakeIn {
     ghost use Rattle.hub_lock.specs.Steps.{joined, spent};
 
     ghost both = { joined };
@@ -82,9 +82,9 @@ impl<O, E> Join<View<O, E>> for Both {
 }
 
 /// Word 0 is loaded after a join, to learn how what both had seen and owned fits together.
-pub struct Check;
+pub struct CheckJoin;
 
-impl<T, O, E> Play<Option<T>, View<O, E>> for Check {
+impl<T, O, E> Play<Option<T>, View<O, E>> for CheckJoin {
     ghost use Rattle.hub_lock.specs.Steps.{checked};
 
     ghost then = { checked };

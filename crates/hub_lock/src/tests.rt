@@ -1,11 +1,12 @@
 // A counter with a journal, which two threads move by seats that are split and joined.
 ghost use Rattle.std.specs.Prelude.{◌≡◌, ℕ, List, ◌+◌, ◌<◌, [], ◌∷◌, ◌++◌, true, false, IfOk, OnOk, OnErr};
+ghost use Rattle.std.specs.Thread.{IsSync};
 ghost use Rattle.hub_lock.specs.Merge.{IsMerged};
 ghost use Rattle.hub_lock.specs.Moves.{ups, downs};
 ghost use Rattle.hub_lock.specs.Seats.{own_entries, Adds, Sees};
 ghost use Rattle.hub_lock.specs.declared.tests.Move.{Move};
 
-use crate::{Held, Kept, Seat, Turn};
+use crate::{Held, Kept, Seat, Turn, one_has_the_turn};
 use std::alloc::{AllocError, Global};
 use std::sync::Wait;
 use std::test::Fail;
@@ -177,6 +178,82 @@ fn a_turn_that_adds_nothing_keeps_the_journal(rt: HostRuntime) -> Result<(), Fai
     let held = turn.enter(&rt, &mut seat);
     assert_eq!(rt; held.value.count, 0);
     turn.leave(&mut seat, held, false);
+    seat.facts();
+    one_has_the_turn::<Counter>();
     assert_eq!(rt; turn.close(seat).journal.len(), 0);
+    Ok(())
+}
+
+// Takes the turn again and again, and adds nothing.
+fn pass_by<R: Wait>(
+    rt: &R,
+    turn: &Turn<Counter>,
+    mut seat: Seat<Counter>,
+    times: u32,
+) -> Seat<Counter>
+    requires turn { seat.turn ≡ turn.now }
+    requires outside { seat.inside ≡ false }
+    ensures { (result.turn ≡ turn.now) × (result.inside ≡ false) × (result.parts ≡ seat.parts) }
+{
+    for _ in 0..times {
+        let held = turn.enter(rt, &mut seat);
+        turn.leave(&mut seat, held, false);
+    }
+    seat
+}
+
+// Two threads that take the turn again and again.
+fn pair<R: Threads + Wait + Sync>(
+    rt: &R,
+    turn: &Turn<Counter>,
+    one: Seat<Counter>,
+    other: Seat<Counter>,
+) -> (Seat<Counter>, Seat<Counter>)
+    requires turn { (one.turn ≡ turn.now) × (other.turn ≡ turn.now) }
+    requires outside { (one.inside ≡ false) × (other.inside ≡ false) }
+    ensures one { (result.0.turn ≡ turn.now) × (result.0.inside ≡ false) × (result.0.parts ≡ one.parts) }
+    ensures other { (result.1.turn ≡ turn.now) × (result.1.inside ≡ false) × (result.1.parts ≡ other.parts) }
+{
+    thread::join(
+        rt,
+        move ||
+            requires { (one.turn ≡ turn.now) × (one.inside ≡ false) }
+            ensures { (result.turn ≡ turn.entry.now) × (result.inside ≡ false) × (result.parts ≡ one.parts) }
+        { pass_by(rt, turn, one, 3000) },
+        move ||
+            requires { (other.turn ≡ turn.now) × (other.inside ≡ false) }
+            ensures { (result.turn ≡ turn.entry.now) × (result.inside ≡ false) × (result.parts ≡ other.parts) }
+        { pass_by(rt, turn, other, 3000) },
+    )
+}
+
+// Three of them: a wake of one is not enough.
+fn crowd<R: Threads + Wait + Sync>(rt: &R, alloc: Global) -> Result<Counter, AllocError> {
+    let (turn, mut seat) = Turn::start(alloc, Counter::new(alloc))?;
+    let one = turn.split(&mut seat);
+    let two = turn.split(&mut seat);
+    let three = turn.split(&mut seat);
+    let shared = &turn;
+    let (one, (two, three)) = thread::join(
+        rt,
+        move ||
+            requires { (one.turn ≡ shared.now) × (one.inside ≡ false) }
+            ensures { (result.turn ≡ shared.entry.now) × (result.inside ≡ false) × (result.parts ≡ one.parts) }
+        { pass_by(rt, shared, one, 3000) },
+        move ||
+            requires { IsSync R.row × (two.turn ≡ shared.now) × (three.turn ≡ shared.now) × (two.inside ≡ false) × (three.inside ≡ false) }
+            ensures two { (result.0.turn ≡ shared.entry.now) × (result.0.inside ≡ false) × (result.0.parts ≡ two.parts) }
+            ensures three { (result.1.turn ≡ shared.entry.now) × (result.1.inside ≡ false) × (result.1.parts ≡ three.parts) }
+        { pair(rt, shared, two, three) },
+    );
+    turn.join(&mut seat, one);
+    turn.join(&mut seat, two);
+    turn.join(&mut seat, three);
+    Ok(turn.close(seat))
+}
+
+#[test]
+fn seats_that_wait_are_woken(rt: HostRuntime) -> Result<(), Fail> {
+    assert_eq!(rt; crowd(&rt, rt.alloc())?.journal.len(), 0);
     Ok(())
 }

@@ -1,14 +1,14 @@
 // The turn, its seats, and the value that a seat takes and gives.
-ghost use Rattle.std.specs.Prelude.{◌≡◌, ℕ, ◌+◌, ◌<◌, ◌≤◌, [], ◌∷◌, ◌++◌, length, true, false, Some, IfOk};
+ghost use Rattle.std.specs.Prelude.{◌≡◌, ℕ, ◌+◌, ◌<◌, ◌≤◌, [], ◌∷◌, ◌++◌, length, true, false, Some, IfOk, IsSome};
 ghost use Rattle.atomic_table.specs.Seated.{TableId};
-ghost use Rattle.hub_lock.specs.Places.{times, between};
-ghost use Rattle.hub_lock.specs.Stages.{has_turn};
-ghost use Rattle.hub_lock.specs.Steps.{staged, view, own_after, IsOutside, Took, MayCommit, IsSound};
-ghost use Rattle.hub_lock.specs.Seats.{SeatState, seat_state, first_seat, one_part_less, split_from, own_entries, Joins, Enters, MayLeave, Leaves};
+ghost use Rattle.hub_lock.specs.Places.{all_parts, times, between, mine, others, StartsWith, IsWithin};
+ghost use Rattle.hub_lock.specs.Merge.{IsMerged};
+ghost use Rattle.hub_lock.specs.Steps.{staged, IsOutside, Took, MayCommit, HasCommitted, IsSound};
+ghost use Rattle.hub_lock.specs.Seats.{SeatState, seat_state, first_seat, one_part_less, split_from, both, inside_with, own_entries, MayLeave, Leaves};
 ghost use Rattle.hub_lock.specs.declared.view.Stage.TheVariants.{Outside, Waits, Inside};
 
 use crate::kept::Kept;
-use crate::rule::{Both, Check, Commit, Draw, Look, Order, Part, PassOn};
+use crate::rule::{CheckJoin, Commit, Draw, Look, Order, PassOn, SplitOff, TakeIn};
 use crate::view::View;
 use atomic_table::{Refused, Table};
 use std::alloc::{AllocError, Global};
@@ -23,6 +23,9 @@ const JOURNAL: usize = 0;
 const NEXT: usize = 1;
 
 const SERVING: usize = 2;
+
+// A thread parks on the lower half of a word, which is the rest by this.
+const HALF: u64 = 4_294_967_296;
 
 // The one slot: it holds the value, or nothing while a seat is inside.
 const VALUE: usize = 0;
@@ -59,6 +62,18 @@ impl<T: Kept> Model for Seat<T> {
     ghost invariant = { λ s. IsSound s.pass.me };
 }
 
+impl<T: Kept> Seat<T> {
+    /// Tells what holds of each seat at any time: it has the value's opening and a part, and has seen each entry that is its own.
+    /// It does nothing, and a layer that is handed a seat calls it so that its proofs know.
+    pub fn facts(&self)
+        ensures opening { IsSome self.now.opening }
+        ensures part { 0 < self.now.parts }
+        ensures within { IsWithin self.now.seen self.now.own }
+    {
+        let _ = &self.pass;
+    }
+}
+
 /// The value, while a seat has the turn.
 #[derive(Drop)]
 pub struct Held<T> {
@@ -87,7 +102,7 @@ impl<T: Kept> Turn<T> {
         ensures kept { seat.new ≡ one_part_less seat.old }
         ensures given { result ≡ split_from seat.old }
     {
-        let pass = self.table.shared.split_seat::<Part>(&mut seat.pass);
+        let pass = self.table.shared.split_seat::<SplitOff>(&mut seat.pass);
         Seat { pass }
     }
 
@@ -95,11 +110,20 @@ impl<T: Kept> Turn<T> {
     pub fn join(&self, seat: &mut Seat<T>, other: Seat<T>)
         requires turn { (seat.old.turn ≡ self.now) × (other.turn ≡ self.now) }
         requires outside { (seat.old.inside ≡ false) × (other.inside ≡ false) }
-        ensures { Joins seat.old other seat.new }
+        ensures both { seat.new ≡ both seat.old other }
+
+        // Each of the two had seen a beginning of what is now seen, and they shared no place.
+        ensures later { StartsWith seat.new.seen seat.old.seen × StartsWith seat.new.seen other.seen }
+        ensures apart { (p : ℕ) → times p seat.old.own + times p other.own ≤ 1 }
+        ensures within { IsWithin seat.new.seen seat.new.own }
+
+        // The places of each are still those of the same entries, and together these are its own.
+        ensures kept { (mine seat.new.seen seat.old.own ≡ own_entries seat.old) × (mine seat.new.seen other.own ≡ own_entries other) }
+        ensures entries { IsMerged (own_entries seat.new) (own_entries seat.old) (own_entries other) }
     {
         let Seat { pass } = other;
-        self.table.shared.join_seat::<Both>(&mut seat.pass, pass);
-        self.table.shared.load::<Check>(&mut seat.pass, JOURNAL);
+        self.table.shared.join_seat::<TakeIn>(&mut seat.pass, pass);
+        self.table.shared.load::<CheckJoin>(&mut seat.pass, JOURNAL);
     }
 
     /// Waits for the turn, and takes the value. Its journal is what the seat has then seen.
@@ -108,7 +132,15 @@ impl<T: Kept> Turn<T> {
     pub fn enter<R: Wait>(&self, rt: &R, seat: &mut Seat<T>) -> Held<T>
         requires turn { seat.old.turn ≡ self.now }
         requires outside { seat.old.inside ≡ false }
-        ensures { Enters T.opening T.journal T.rule seat.old result.value seat.new }
+        ensures inside { seat.new ≡ inside_with seat.old (T.journal result.value) }
+        ensures opening { seat.old.opening ≡ Some (T.opening result.value) }
+        ensures later { StartsWith seat.new.seen seat.old.seen }
+        ensures within { IsWithin seat.new.seen seat.new.own }
+
+        // Its own entries are as before. They meet the rule, and so do those that are not its own.
+        ensures entries { own_entries seat.new ≡ own_entries seat.old }
+        ensures own_ruled { T.rule (own_entries seat.new) }
+        ensures rest_ruled { T.rule (others seat.new.seen seat.new.own) }
     {
         let ticket = self.draw(rt, &mut seat.pass);
         self.look(rt, &mut seat.pass, ticket);
@@ -147,7 +179,7 @@ impl<T: Kept> Turn<T> {
     pub fn close(self, seat: Seat<T>) -> T
         requires turn { seat.turn ≡ self }
         requires outside { seat.inside ≡ false }
-        requires all { seat.parts ≡ 4294967296 }
+        requires all { seat.parts ≡ all_parts }
         ensures opening { seat.opening ≡ Some (T.opening result) }
         ensures journal { T.journal result ≡ seat.seen }
         ensures own { (p : ℕ) → times p seat.own ≡ between p 0 (length seat.seen) }
@@ -196,9 +228,7 @@ impl<T: Kept> Turn<T> {
             if serving == ticket {
                 return;
             }
-            self.table
-                .shared
-                .park(rt, SERVING, (serving % 4294967296) as u32);
+            self.table.shared.park(rt, SERVING, (serving % HALF) as u32);
         }
         unreachable!()
     }
@@ -209,7 +239,7 @@ impl<T: Kept> Turn<T> {
         requires inside { ((t : ℕ) × (pass.old.me.0.stage ≡ Inside t)) × (pass.old.me.1 ≡ (0, Some value.now.value) ∷ []) }
         requires may { MayCommit T.journal T.rule pass.old.me.0 value.now.value added }
         ensures own { pass.new.table_id ≡ pass.old.table_id }
-        ensures done { (has_turn pass.new.me.0.stage ≡ 1) × (pass.new.me ≡ (view pass.old.me.0.opening (T.journal value.now.value) (own_after pass.old.me.0 added) pass.old.me.0.parts pass.new.me.0.stage pass.old.me.0.told, pass.old.me.1)) }
+        ensures done { HasCommitted T.journal pass.old.me value.now.value added pass.new.me }
     {
         if added {
             self.table.shared.fetch_add::<Commit<T>>(pass, JOURNAL, 1);

@@ -20,6 +20,6 @@ pub struct View<O, E> {
     pub own: LinkedList<u64>,
     pub parts: u64,
     pub stage: Stage,
-    /// What a seat that was joined had seen.
+    /// After a join the shorter of what the two had seen.
     pub told: LinkedList<E>,
 }

@@ -2,10 +2,10 @@
 use Rattle.std.proofs.Common.{◌≡◌, ◌≢◌, ℕ, ◌+◌, ◌<◌, inl, List, [], ◌∷◌, drop, length, set, get_or, replicate, Some, None, refl, sym, ap, ◌∙◌, subst, arith}
 use Rattle.in_lists.specs.declared.node.Node.{Node}
 use Rattle.in_lists.specs.Nodes.{AllAlone, node_at, with_head, joined}
-use Rattle.in_lists.specs.Lists.{incoming, IsIn, IsKept, cut_out, with_list}
+use Rattle.in_lists.specs.Lists.{incoming, IsIn, cut_out, with_list}
 use Rattle.in_lists.specs.Linked.{next_of, prev_of, head_of, lists_of, Chain, In, IsLinked}
 use Rattle.in_lists.proofs.Reading.{lists_read}
-use Rattle.in_lists.proofs.Keeping.{kept, In-from_Contains, Contains-from_In}
+use Rattle.in_lists.proofs.Keeping.{In-from_Contains, Contains-from_In}
 use Rattle.in_lists.proofs.Putting.{put_linked}
 use Rattle.in_lists.proofs.Cutting.{cut_lists, cut_linked, cut_first}
 use Rattle.in_lists.proofs.Emptied.{empty_linked}
@@ -14,12 +14,11 @@ use Rattle.in_lists.proofs.Emptied.{empty_linked}
 pub record StandFor (ns : List Node) (exits : ℕ) (lists : List (List ℕ)) : Type 0 where
   pub whole : IsLinked ns exits (lists_of ns exits)
   pub same : lists_of ns exits ≡ lists
-  pub keeps : IsKept (incoming exits (lists_of ns exits))
 
 stand_for : (ns : List Node) (exits : ℕ) (lists : List (List ℕ)) → IsLinked ns exits lists → StandFor ns exits lists
 stand_for ns exits lists linked =
-    let same = lists_read ns exits lists linked in let whole = subst (IsLinked ns exits) (sym same) linked in
-    record { whole = whole; same = same; keeps = kept ns exits (lists_of ns exits) whole }
+    let same = lists_read ns exits lists linked in
+    record { whole = subst (IsLinked ns exits) (sym same) linked; same = same }
 
 pub after_put : (ns one two three : List Node) (exits : ℕ) (lists : List (List ℕ)) (n : Node) (h e : ℕ) → (linked : IsLinked ns exits lists) (fh : h < length lists) (fe : e < exits)
     → ((g : ℕ) → In e (get_or lists g []) → ⊥) → n ≡ node_at ns (exits + h) → one ≡ joined ns e n.next → two ≡ joined one (exits + h) e → three ≡ with_head two e (Some h)

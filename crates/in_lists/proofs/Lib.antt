@@ -1,5 +1,6 @@
 pub mod Calls
 pub mod Chains
+mod Crosses
 pub mod Cutting
 pub mod Emptied
 pub mod Keeping

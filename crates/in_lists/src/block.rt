@@ -28,6 +28,9 @@ impl Model for Block {
     ghost also_shares = { λ b _ κ. shown (block_of b.start) (count_of b.start) b.nodes κ };
 }
 
+// SAFETY: the model's `also_owns` is the memory with the nodes, which hold numbers alone, so no thread's own address goes with it.
+unsafe impl Send for Block {}
+
 /// The right to give the memory of `len` nodes at `start` back to `alloc`.
 pub struct Claim<A: Allocator> {
     handle: PhantomData<A>,
@@ -39,6 +42,9 @@ pub struct Claim<A: Allocator> {
 impl<A: Allocator> Model for Claim<A> {
     ghost also_owns = { λ c. A.dealloc_token c.alloc (block_type c.len) c.start };
 }
+
+// SAFETY: the model's `also_owns` is the right to free alone, which an allocator that is `Send` takes back on any thread.
+unsafe impl<A: Allocator + Send> Send for Claim<A> {}
 
 /// Memory for `len` nodes, of which none is written.
 pub(crate) fn allocate<A: Allocator>(alloc: &A, len: usize) -> Result<(Block, Claim<A>), AllocError>
@@ -67,6 +73,7 @@ pub(crate) fn free<A: Allocator>(block: Block, claim: Claim<A>, alloc: &A, len: 
 {
     let Block { start } = block;
     let Claim { handle: _ } = claim;
+    // SAFETY: the `requires`: the claim is the right to free this very block from this allocator, and all of its `len` nodes are written.
     unsafe {
         alloc.deallocate(
             start as *mut u8,
@@ -82,6 +89,7 @@ impl Block {
         requires { index < length self.now.nodes }
         ensures { result.now ≡ node_at self.now.nodes index }
     {
+        // SAFETY: the `requires`: a node is written there, and `&self` keeps it from being written over.
         unsafe { &*self.start.add(index) }
     }
 
@@ -93,6 +101,7 @@ impl Block {
         ensures room { length self.new.nodes + self.new.more ≡ length self.old.nodes + self.old.more }
         ensures start { self.new.start ≡ self.old.start }
     {
+        // SAFETY: `fits`: the place lies within the memory that the block owns.
         unsafe { *self.start.add(index) = node }
     }
 }

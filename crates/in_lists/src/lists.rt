@@ -32,18 +32,25 @@ impl Model for InLists {
 impl InLists {
     /// Empty lists of `exits` exits for `heads` heads, both numbered from 0. The block has a node for each exit and each head.
     pub fn new(alloc: Global, exits: u32, heads: u32) -> Result<InLists, AllocError>
-        ensures { IfOk result (λ v. (v ≡ all_empty exits heads) × IsKept v) }
+        ensures { IfOk result (λ v. v ≡ all_empty exits heads) }
     {
         let nodes = Nodes::new(alloc, exits as usize + heads as usize)?;
         Ok(InLists { nodes, exits })
+    }
+
+    /// Tells that each exit is in one list at most, and there once, and that all exits are in range. That holds of all lists at any time:
+    /// it does nothing, and a layer that is handed lists calls it so that its proofs know.
+    pub fn each_in_one_list(&self)
+        ensures { IsKept self.now }
+    {
+        let _ = &self.nodes;
     }
 
     /// Puts the exit first in the head's list.
     pub fn put(&mut self, exit: u32, head: u32)
         requires in_range { (exit < self.old.exits) × (head < length self.old.lists) }
         requires in_no_list { (h : ℕ) → ¬ IsIn self.old exit h }
-        ensures lists { self.new ≡ with_list self.old head (exit ∷ list_of self.old head) }
-        ensures kept { IsKept self.new }
+        ensures { self.new ≡ with_list self.old head (exit ∷ list_of self.old head) }
     {
         let node = exit as usize;
         let end = self.exits as usize + head as usize;
@@ -56,8 +63,7 @@ impl InLists {
     /// Takes the exit out of its list. The order of the others stays.
     pub fn cut(&mut self, exit: u32)
         requires { (h : ℕ) × IsIn self.old exit h }
-        ensures lists { self.new ≡ cut_out self.old exit }
-        ensures kept { IsKept self.new }
+        ensures { self.new ≡ cut_out self.old exit }
     {
         let index = exit as usize;
         let node = self.nodes.get(index);
@@ -70,7 +76,6 @@ impl InLists {
         requires { head < length self.old.lists }
         ensures value { result ≡ slice_get (list_of self.old head) 0 }
         ensures lists { self.new ≡ with_list self.old head (drop 1 (list_of self.old head)) }
-        ensures kept { IsKept self.new }
     {
         let end = self.exits as usize + head as usize;
         let first = self.nodes.get(end).next;
@@ -85,16 +90,14 @@ impl InLists {
     /// The head in whose list the exit is.
     pub fn head_of(&self, exit: u32) -> Option<u32>
         requires { exit < self.now.exits }
-        ensures head { (h : ℕ) → (result ≡ Some h) ↔ IsIn self.now exit h }
-        ensures kept { IsKept self.now }
+        ensures { (h : ℕ) → (result ≡ Some h) ↔ IsIn self.now exit h }
     {
         self.nodes.get(exit as usize).head
     }
 
     /// Empties all lists.
     pub fn clear(&mut self)
-        ensures lists { self.new ≡ all_empty self.old.exits (length self.old.lists) }
-        ensures kept { IsKept self.new }
+        ensures { self.new ≡ all_empty self.old.exits (length self.old.lists) }
     {
         self.nodes.isolate();
     }

@@ -38,6 +38,13 @@ fn takes(rt: &impl Abort, lists: &mut InLists, head: u32, wanted: Option<u32>)
     assert_eq!(rt; lists.take_first(head), wanted);
 }
 
+// What is sent to another thread.
+fn sent<T: Send>(value: T) -> T
+    ensures { result ≡ value }
+{
+    value
+}
+
 #[test]
 fn cut_middle(rt: HostRuntime) -> Result<(), Fail> {
     let mut lists = InLists::new(rt.alloc(), 4, 2)?;
@@ -77,5 +84,14 @@ fn lists_reused(rt: HostRuntime) -> Result<(), Fail> {
 fn no_exits(rt: HostRuntime) -> Result<(), Fail> {
     let mut lists = InLists::new(rt.alloc(), 0, 0)?;
     lists.clear();
+    Ok(())
+}
+
+#[test]
+fn lists_are_sent(rt: HostRuntime) -> Result<(), Fail> {
+    let mut lists = sent(InLists::new(rt.alloc(), 2, 1)?);
+    lists.each_in_one_list();
+    puts(&rt, &mut lists, 1, 0);
+    takes(&rt, &mut lists, 0, Some(1));
     Ok(())
 }

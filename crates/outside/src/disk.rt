@@ -1,6 +1,7 @@
 // The system's files and its standard output. What they hold no clause says.
-ghost use Rattle.std.specs.Prelude.{◌≡◌, ◌<◌, ◌≤◌, ℕ, List, Option, None, Err, length, vec_len, IfOk, IsErr};
-ghost use Rattle.outside.specs.Faults.{Rose};
+ghost use Rattle.std.specs.Prelude.{◌≡◌, ◌<◌, ◌≤◌, ℕ, List, Err, take, length, vec_len, IfOk, OnOk, OnErr, IsErr};
+ghost use Rattle.outside.specs.Faults.{Rose, one_more};
+ghost use Rattle.outside.specs.Sink.{with_bytes};
 
 use crate::files::{FileErr, Files};
 use crate::raised;
@@ -78,8 +79,9 @@ impl<R: rt::Files + Drop> Files for DiskFiles<R> {
         ensures kept { (n : List ℕ) → Untold ≡ Untold }
         ensures never_falls { (n : List ℕ) → disk_faults self.old ≤ disk_faults self.new }
 
-        // Each read that gives no bytes is counted.
-        ensures counted { IsErr result → Rose (disk_faults self.old) (disk_faults self.new) }
+        // Just the reads that give no bytes are counted.
+        ensures counted { OnErr result (disk_faults self.new ≡ one_more (disk_faults self.old)) }
+        ensures uncounted { OnOk result (disk_faults self.new ≡ disk_faults self.old) }
     {
         let read = read_file(&self.rt, self.alloc, name, limit);
         if read.is_err() {
@@ -108,13 +110,24 @@ impl<R: Print + Drop> StdSink<R> {
 }
 
 impl<R: Print + Drop> Sink for StdSink<R> {
-    ghost use Rattle.outside.specs.Adapters.{output_faults};
+    ghost use Rattle.outside.specs.Adapters.{untold, output_faults};
 
-    ghost written = { λ sink. None };
+    ghost written = { λ sink. untold };
 
     ghost faults = { λ sink. output_faults sink };
 
-    fn write(&mut self, piece: &[u8]) -> Result<usize, SinkFailed> {
+    fn write(&mut self, piece: &[u8]) -> Result<usize, SinkFailed>
+        ensures count { IfOk result (λ n. n ≤ length piece.now) }
+        ensures some { IfOk result (λ n. 0 < length piece.now → 0 < n) }
+        ensures appended { IfOk result (λ n. untold ≡ with_bytes untold (take n piece.now)) }
+        ensures err { OnErr result (untold ≡ untold) }
+        ensures failed { IsErr result → Rose (output_faults self.old) (output_faults self.new) }
+        ensures never_falls { output_faults self.old ≤ output_faults self.new }
+
+        // Just the writes that fail are counted.
+        ensures counted { OnErr result (output_faults self.new ≡ one_more (output_faults self.old)) }
+        ensures uncounted { OnOk result (output_faults self.new ≡ output_faults self.old) }
+    {
         match io::writer(&self.rt).write(piece) {
             Ok(count) if count > 0 || piece.is_empty() => Ok(count),
             _ => {

@@ -160,10 +160,12 @@ impl Files for FuseFiles {
         ensures kept { (n : List ℕ) → fuse_content self.new n ≡ fuse_content self.old n }
         ensures never_falls { (n : List ℕ) → fuse_faults self.old ≤ fuse_faults self.new }
 
-        // Just the listed calls and those for an absent name fail.
+        // Just the listed calls and those for an absent name fail, and just they are counted.
         ensures calls { calls_made self.new ≡ one_more (calls_made self.old) }
         ensures same_list { listed_calls self.new ≡ listed_calls self.old }
         ensures listed { (result ≡ Err FileErr.Failed) ↔ (Contains (listed_calls self.old) (calls_made self.new) ⊎ (fuse_content self.old name.now ≡ Absent)) }
+        ensures counted { result ≡ Err FileErr.Failed → fuse_faults self.new ≡ one_more (fuse_faults self.old) }
+        ensures uncounted { result ≢ Err FileErr.Failed → fuse_faults self.new ≡ fuse_faults self.old }
     {
         self.calls = raised(self.calls);
         if is_listed(&self.fails, self.calls) {

@@ -1,6 +1,6 @@
 // Where a text is written, piece by piece.
-ghost use Rattle.std.specs.Prelude.{◌≡◌, ◌<◌, ◌≤◌, ◌-◌, ◌↔◌, ◌⊎◌, ℕ, List, [], Option, Some, take, length, min, Contains, IfOk, OnErr, IsErr, vec_len, vec_capacity};
-ghost use Rattle.outside.specs.Faults.{Rose, one_more, one_more_if};
+ghost use Rattle.std.specs.Prelude.{◌≡◌, ◌<◌, ◌≤◌, ◌-◌, ◌↔◌, ◌⊎◌, ℕ, List, [], Option, Some, take, length, min, Contains, IfOk, OnOk, OnErr, IsErr, vec_len, vec_capacity};
+ghost use Rattle.outside.specs.Faults.{Rose, one_more};
 ghost use Rattle.outside.specs.Sink.{with_bytes};
 
 use crate::{is_listed, raised};
@@ -82,7 +82,7 @@ impl Sink for MemSink {
         ensures full { IsErr result ↔ ((0 < length piece.now) × (room_of self.old ≤ length (sink_bytes self.old))) }
         ensures room { room_of self.new ≡ room_of self.old }
         ensures counted { OnErr result (sink_faults self.new ≡ one_more (sink_faults self.old)) }
-        ensures uncounted { IfOk result (λ n. sink_faults self.new ≡ sink_faults self.old) }
+        ensures uncounted { OnOk result (sink_faults self.new ≡ sink_faults self.old) }
     {
         let count = piece.len().min(self.room as usize - self.bytes.len());
         if count == 0 && !piece.is_empty() {
@@ -151,13 +151,16 @@ impl Sink for FuseSink {
         ensures failed { IsErr result → Rose (fuse_faults self.old) (fuse_faults self.new) }
         ensures never_falls { fuse_faults self.old ≤ fuse_faults self.new }
 
-        // It takes what the call may take and what there is room for. Just the listed calls and those without room fail.
+        // It takes what the call may take and what there is room for. Just the listed calls and those without room fail, and
+        // just they are counted.
         ensures calls { calls_made self.new ≡ one_more (calls_made self.old) }
         ensures same_list { listed_calls self.new ≡ listed_calls self.old }
         ensures same_most { most_of self.new ≡ most_of self.old }
         ensures room { fuse_room self.new ≡ fuse_room self.old }
         ensures taken { IfOk result (λ n. n ≡ min (min (length piece.now) (most_of self.old)) (fuse_room self.old - length (fuse_bytes self.old))) }
         ensures listed { IsErr result ↔ (Contains (listed_calls self.old) (calls_made self.new) ⊎ ((0 < length piece.now) × (fuse_room self.old ≤ length (fuse_bytes self.old)))) }
+        ensures counted { OnErr result (fuse_faults self.new ≡ one_more (fuse_faults self.old)) }
+        ensures uncounted { OnOk result (fuse_faults self.new ≡ fuse_faults self.old) }
     {
         self.calls = raised(self.calls);
         if is_listed(&self.fails, self.calls) {

@@ -1,10 +1,12 @@
-use Rattle.std.proofs.Common.{◌≡◌, ℕ, List, ◌+◌, ◌<◌, [], ◌∷◌, ◌++◌, sym, subst, refl, arith, Bool, true, false}
+use Rattle.std.proofs.Common.{◌≡◌, ℕ, List, ◌+◌, ◌<◌, [], ◌∷◌, ◌++◌, sym, ap, subst, refl, arith, Bool, true, false}
 use Rattle.hub_lock.specs.Merge.{total-merged}
 use Rattle.hub_lock.specs.Moves.{one_up, one_down, ups, downs, IsCovered}
 use Rattle.hub_lock.specs.Places.{mine, others}
 use Rattle.hub_lock.proofs.Sums.{total-append}
 use Rattle.hub_lock.proofs.Entries.{own_and_others}
-use Rattle.hub_lock.proofs.Calls.{may_leave, adds, sees, some_before}
+use Rattle.hub_lock.proofs.Calls.{CameIn, may_leave, adds, sees, some_before}
+use Rattle.hub_lock.specs.declared.tests.Counter.{Counter}
+use Rattle.hub_lock.specs.declared.tests.Move.{Move}
 use Rattle.hub_lock.proofs.tests.go.Goals as goal
 
 -- what the seat may go down by, the counter has
@@ -24,26 +26,32 @@ covered_push es e up h may =
     by true may a b = omega (arith, h)
     by false may a b = omega (arith, may refl)
 
+abbrev journal : Counter → List Move
+journal x = x.journal.items
+
 pub go-result-requires : goal.go-result-requires
 go-result-requires g c down =
     let h = c.enter-counter.ensures in
     let s = c.enter-counter.new.seat in
-    subst (λ l. downs l (λ m. m.up) < ups l (λ m. m.up)) h.value.1 (covered s.seen s.own (λ m. m.up) (subst (λ l. downs l (λ m. m.up) < ups l (λ m. m.up)) (sym h.entries) (c.requires.may down)) h.rest_ruled)
+    subst (λ l. downs l (λ m. m.up) < ups l (λ m. m.up)) (ap (λ k. k.seen) h.inside) (covered s.seen s.own (λ m. m.up) (subst (λ l. downs l (λ m. m.up) < ups l (λ m. m.up)) (sym h.entries) (c.requires.may down)) h.rest_ruled)
 
 pub leave-requires-clause-may : goal.leave-requires-clause-may
 leave-requires-clause-may g c =
-    let h = c.enter-counter.ensures in
+    let e = c.enter-counter.ensures in
+    let h : CameIn c.args.seat.now c.enter-counter.result.value.journal.items c.enter-counter.new.seat = record { inside = e.inside; later = e.later; within = e.within; entries = e.entries } in
     let r = c.go-result.ensures in
-    may_leave _ _ _ _ c.enter-counter.result.value c.go-result.new.self _ (λ _. c.args.step) c.go-result.result _ c.is_ok.ensures.value h r.ok r.err (λ _. covered_push _ c.args.step (λ m. m.up) (subst (λ l. IsCovered l (λ m. m.up)) h.entries h.own_ruled) c.requires.may)
+    may_leave journal (λ es. IsCovered es (λ m. m.up)) _ _ c.go-result.new.self _ (λ _. c.args.step) c.go-result.result _ c.is_ok.ensures.value h r.ok r.err (λ _. covered_push _ c.args.step (λ m. m.up) (subst (λ l. IsCovered l (λ m. m.up)) e.entries e.own_ruled) c.requires.may)
 
 pub returns-clause-ok : goal.returns-clause-ok
 returns-clause-ok g c =
-    let h = c.enter-counter.ensures in
+    let e = c.enter-counter.ensures in
+    let h : CameIn c.args.seat.now c.enter-counter.result.value.journal.items c.enter-counter.new.seat = record { inside = e.inside; later = e.later; within = e.within; entries = e.entries } in
     let r = c.go-result.ensures in
-    let done = adds _ _ _ _ c.enter-counter.result.value c.go-result.new.self _ _ (λ _. c.args.step) c.go-result.result _ c.is_ok.ensures.value h r.ok c.leave.ensures in
+    let done = adds journal _ _ c.go-result.new.self _ _ (λ _. c.args.step) c.go-result.result _ c.is_ok.ensures.value h r.ok c.leave.ensures in
     some_before _ _ _ _ c.go-result.result done
 
 pub returns-clause-err : goal.returns-clause-err
 returns-clause-err g c =
-    let h = c.enter-counter.ensures in
-    sees _ _ _ _ c.enter-counter.result.value c.go-result.new.self _ _ c.go-result.result _ c.is_ok.ensures.value h c.leave.ensures
+    let e = c.enter-counter.ensures in
+    let h : CameIn c.args.seat.now c.enter-counter.result.value.journal.items c.enter-counter.new.seat = record { inside = e.inside; later = e.later; within = e.within; entries = e.entries } in
+    sees journal _ _ c.go-result.new.self _ _ c.go-result.result _ c.is_ok.ensures.value h c.leave.ensures

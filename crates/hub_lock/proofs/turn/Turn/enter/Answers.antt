@@ -1,7 +1,7 @@
 use Rattle.std.proofs.Common.{rules, ap, subst, ◌∙◌}
 use Rattle.hub_lock.specs.Steps.{IsSound}
-use Rattle.hub_lock.specs.Seats.{SeatState, seat_state, Enters}
-use Rattle.hub_lock.proofs.SeatStates.{out_of, slot_held, value_found, entered}
+use Rattle.hub_lock.specs.Seats.{SeatState, seat_state}
+use Rattle.hub_lock.proofs.SeatStates.{Enters, out_of, slot_held, value_found, entered}
 use Rattle.hub_lock.proofs.turn.Turn.enter.Given as given
 use Rattle.hub_lock.proofs.turn.Turn.enter.Goals as goal
 
@@ -26,5 +26,27 @@ done g c =
 pub invariant_of-seat : goal.invariant_of-seat
 invariant_of-seat g c = (done g c).0
 
-pub returns : goal.returns
-returns g c = subst (λ (s : SeatState g.row.T-Opening.Denot g.row.T-Entry.Denot). Enters g.T.Kept.opening g.T.Kept.journal g.T.Kept.rule s c.unwrap-value.result (seat_state c.exchange.new.seat.table_id c.exchange.new.seat.me)) c.seat.view_is (done g c).1
+told : (g : given.Over) (c : goal.After-unwrap-value g)
+    → Enters g.T.Kept.opening g.T.Kept.journal g.T.Kept.rule c.args.seat.now c.unwrap-value.result (seat_state c.exchange.new.seat.table_id c.exchange.new.seat.me)
+told g c = subst (λ (s : SeatState g.row.T-Opening.Denot g.row.T-Entry.Denot). Enters g.T.Kept.opening g.T.Kept.journal g.T.Kept.rule s c.unwrap-value.result (seat_state c.exchange.new.seat.table_id c.exchange.new.seat.me)) c.seat.view_is (done g c).1
+
+pub returns-clause-inside : goal.returns-clause-inside
+returns-clause-inside g c = (told g c).inside
+
+pub returns-clause-opening : goal.returns-clause-opening
+returns-clause-opening g c = (told g c).opening
+
+pub returns-clause-later : goal.returns-clause-later
+returns-clause-later g c = (told g c).later
+
+pub returns-clause-within : goal.returns-clause-within
+returns-clause-within g c = (told g c).within
+
+pub returns-clause-entries : goal.returns-clause-entries
+returns-clause-entries g c = (told g c).entries
+
+pub returns-clause-own_ruled : goal.returns-clause-own_ruled
+returns-clause-own_ruled g c = (told g c).own_ruled
+
+pub returns-clause-rest_ruled : goal.returns-clause-rest_ruled
+returns-clause-rest_ruled g c = (told g c).rest_ruled

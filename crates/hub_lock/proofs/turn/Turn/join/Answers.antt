@@ -1,8 +1,8 @@
 use Rattle.std.proofs.Common.{rules, ap, ◌∙◌, subst}
 use Rattle.hub_lock.specs.Steps.{IsSound}
-use Rattle.hub_lock.specs.Seats.{SeatState, seat_state, Joins}
+use Rattle.hub_lock.specs.Seats.{SeatState, seat_state}
 use Rattle.hub_lock.proofs.Parts.{joins, checks}
-use Rattle.hub_lock.proofs.SeatStates.{out_of, joins_as}
+use Rattle.hub_lock.proofs.SeatStates.{Joins, out_of, joins_as}
 use Rattle.hub_lock.proofs.turn.Turn.join.Given as given
 use Rattle.hub_lock.proofs.turn.Turn.join.Goals as goal
 
@@ -29,8 +29,26 @@ done g c =
 pub invariant_of-seat : goal.invariant_of-seat
 invariant_of-seat g c = (done g c).0
 
-pub returns : goal.returns
-returns g c =
+told : (g : given.Over) (c : goal.After-load g) → Joins c.args.seat.now c.args.other (seat_state c.load.new.seat.table_id c.load.new.seat.me)
+told g c =
     let now = seat_state c.load.new.seat.table_id c.load.new.seat.me in
     let with_other = subst (λ (u : SeatState g.row.T-Opening.Denot g.row.T-Entry.Denot). Joins (seat_state c.seat.inside.pass.table_id c.seat.inside.pass.me) u now) c.other.view_is (done g c).1 in
     subst (λ (s : SeatState g.row.T-Opening.Denot g.row.T-Entry.Denot). Joins s c.args.other now) c.seat.view_is with_other
+
+pub returns-clause-both : goal.returns-clause-both
+returns-clause-both g c = (told g c).is
+
+pub returns-clause-later : goal.returns-clause-later
+returns-clause-later g c = (told g c).later
+
+pub returns-clause-apart : goal.returns-clause-apart
+returns-clause-apart g c = (told g c).apart
+
+pub returns-clause-within : goal.returns-clause-within
+returns-clause-within g c = (told g c).within
+
+pub returns-clause-kept : goal.returns-clause-kept
+returns-clause-kept g c = (told g c).kept
+
+pub returns-clause-entries : goal.returns-clause-entries
+returns-clause-entries g c = (told g c).entries

@@ -9,13 +9,8 @@ invariant_of-self c =
     let exits = c.self.inside.exits in let heads = length (lists_of c.self.inside.nodes exits) in
     (after_clear c.isolate.new.self exits heads c.isolate.ensures.1 (c.isolate.ensures.0 ∙ c.self.invariant.count)).whole
 
-pub returns-clause-lists : goal.returns-clause-lists
-returns-clause-lists c =
+pub returns : goal.returns
+returns c =
     let exits = c.self.inside.exits in let heads = length (lists_of c.self.inside.nodes exits) in
     ap (incoming exits) (after_clear c.isolate.new.self exits heads c.isolate.ensures.1 (c.isolate.ensures.0 ∙ c.self.invariant.count)).same
     ∙ ap (λ v. all_empty v.exits (length v.lists)) c.self.view_is
-
-pub returns-clause-kept : goal.returns-clause-kept
-returns-clause-kept c =
-    let exits = c.self.inside.exits in let heads = length (lists_of c.self.inside.nodes exits) in
-    (after_clear c.isolate.new.self exits heads c.isolate.ensures.1 (c.isolate.ensures.0 ∙ c.self.invariant.count)).keeps

@@ -9,4 +9,4 @@ invariant_of-result c = (after_clear c.in_ok-nodes.nodes c.args.exits c.args.hea
 pub returns : goal.returns
 returns c =
     let now = after_clear c.in_ok-nodes.nodes c.args.exits c.args.heads c.in_ok-nodes.ensures.1 c.in_ok-nodes.ensures.0 in
-    (ap (incoming c.args.exits) now.same, now.keeps)
+    ap (incoming c.args.exits) now.same

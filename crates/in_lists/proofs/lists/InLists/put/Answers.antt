@@ -26,8 +26,5 @@ stands c =
 pub invariant_of-self : goal.invariant_of-self
 invariant_of-self c = (stands c).whole
 
-pub returns-clause-lists : goal.returns-clause-lists
-returns-clause-lists c = ap (incoming c.self.inside.exits) (stands c).same ∙ ap (λ v. with_list v c.args.head (c.args.exit ∷ list_of v c.args.head)) c.self.view_is
-
-pub returns-clause-kept : goal.returns-clause-kept
-returns-clause-kept c = (stands c).keeps
+pub returns : goal.returns
+returns c = ap (incoming c.self.inside.exits) (stands c).same ∙ ap (λ v. with_list v c.args.head (c.args.exit ∷ list_of v c.args.head)) c.self.view_is

@@ -12,11 +12,6 @@ returns-then-first-end-clause-value c =
     let none = none_first ns exits (lists_of ns exits) c.self.invariant h fh (sym (ap (λ n. n.next) c.get-first.ensures) ∙ c.if-first-end.true) in
     sym (ap (λ l. slice_get l 0) (ap (λ v. list_of v h) (sym c.self.view_is) ∙ none))
 
-pub returns-then-first-end-clause-kept : goal.returns-then-first-end-clause-kept
-returns-then-first-end-clause-kept c =
-    let ns = c.self.inside.nodes in let exits = c.self.inside.exits in
-    subst IsKept c.self.view_is (kept ns exits (lists_of ns exits) c.self.invariant)
-
 pub overflow_cast-exit : goal.overflow_cast-exit
 overflow_cast-exit c =
     let ns = c.self.inside.nodes in let exits = c.self.inside.exits in let h = c.args.head in
@@ -44,6 +39,6 @@ pub returns-clause-lists : goal.returns-clause-lists
 returns-clause-lists c =
     let ns = c.self.inside.nodes in let exits = c.self.inside.exits in let h = c.args.head in let first = c.get-first.result.next in
     let fh = subst (λ v. h < length v.lists) (sym c.self.view_is) c.requires in
-    c.cut.ensures.lists ∙ ap (λ v. cut_out v first) (sym c.self.view_is)
+    c.cut.ensures ∙ ap (λ v. cut_out v first) (sym c.self.view_is)
     ∙ after_take ns exits (lists_of ns exits) c.self.invariant h fh first (ap (λ n. n.next) c.get-first.ensures) c.if-first-end.false
     ∙ ap (λ v. with_list v h (drop 1 (list_of v h))) c.self.view_is

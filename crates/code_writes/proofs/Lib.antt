@@ -1,0 +1,5 @@
+pub mod Indexing
+pub mod Lists
+pub mod Maps
+pub mod Paging
+pub mod Searching

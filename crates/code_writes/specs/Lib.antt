@@ -1,0 +1,4 @@
+pub mod Block
+pub mod Index
+pub mod Meeting
+pub mod Pages
