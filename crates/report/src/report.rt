@@ -1,4 +1,4 @@
-ghost use Rattle.std.specs.Prelude.{◌≡◌, ◌+◌, ◌<◌, ◌^◌, ◌++◌, [], ◌∷◌, List, IsOk, IsSome, OnOk, OnErr};
+ghost use Rattle.std.specs.Prelude.{◌≡◌, ℕ, ◌+◌, ◌<◌, ◌≤◌, ◌^◌, ◌++◌, [], ◌∷◌, List, IsOk, IsSome, OnOk, OnErr};
 ghost use Rattle.std.specs.FinMap as fin;
 ghost use Rattle.probe_tools.specs.declared.event.Event.{Event};
 ghost use Rattle.probe_tools.specs.Rows.{AreRows, count_at, key_of, with_more};
@@ -47,7 +47,8 @@ pub fn key_of(event: &Event) -> u32
 impl Report {
     /// A report with no rows. It takes no memory.
     pub fn new(alloc: Global, tool: Tool) -> Report
-        ensures { result ≡ record { tool = tool; counts = fin.empty } }
+        ensures report { result ≡ record { tool = tool; counts = fin.empty } }
+        ensures none { (key : ℕ) → count_at result.counts key ≡ 0 }
     {
         Report {
             tool,
@@ -77,6 +78,7 @@ impl Report {
         ensures ok { OnOk result (self.new ≡ record self.old { counts = with_more (key_of event.now) 1 self.old.counts }) }
         ensures err { OnErr result (self.new ≡ self.old) }
         ensures certain { IsSome (fin.get self.old.counts (key_of event.now)) → IsOk result }
+        ensures small { OnOk result ((key : ℕ) → count_at self.new.counts key ≤ count_at self.old.counts key + 1) }
         // the rows of some events are those of these and this one
         ensures rows { OnOk result ((events : List Event) → AreRows events self.old.counts → AreRows (events ++ event.now ∷ []) self.new.counts) }
     {

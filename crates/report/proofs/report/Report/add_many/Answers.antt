@@ -1,8 +1,6 @@
-use Rattle.std.proofs.Common.{◌≡◌, ℕ, ◌+◌, ◌<◌, ◌^◌, Fits, w64, IsSome, IsOk, Some, None, nat_eq, unwrap_or, rules, arith, refl, ap, sym, subst, ◌∙◌}
-use Rattle.std.specs.FinMap as fin
+use Rattle.std.proofs.Common.{◌≡◌, ◌+◌, IsSome, None, nat_eq, unwrap_or, rules, arith, refl, ap, sym, ◌∙◌}
 use Rattle.std.specs.HashMap.{get}
 use Rattle.probe_tools.specs.Rows.{count_at}
-use Rattle.report.proofs.Maps.{get_seen}
 use Rattle.report.proofs.Counting.{count_seen, more_seen, no_row}
 use Rattle.report.proofs.report.Report.add_many.Goals as goal
 

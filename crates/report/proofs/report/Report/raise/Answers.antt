@@ -1,4 +1,4 @@
-use Rattle.std.proofs.Common.{◌≡◌, ℕ, ◌+◌, IsSome, None, nat_eq, unwrap_or, rules, arith, refl, ap, sym, ◌∙◌}
+use Rattle.std.proofs.Common.{◌≡◌, ◌+◌, IsSome, None, nat_eq, unwrap_or, rules, arith, refl, ap, sym, ◌∙◌}
 use Rattle.std.specs.HashMap.{get}
 use Rattle.probe_tools.specs.Rows.{count_at}
 use Rattle.report.proofs.Counting.{count_seen, more_seen, no_row}
