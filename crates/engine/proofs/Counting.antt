@@ -9,7 +9,7 @@ use Rattle.probe_tools.specs.declared.probe.ProbeKind.{ProbeKind}
 use Rattle.probe_tools.specs.Rows.{AreRows, Counts, count_at, key_of, with_more}
 use Rattle.plain_machine.specs.declared.cpu.Cpu.{Cpu}
 use Rattle.report.specs.Rows.{Rows}
-use Rattle.report.proofs.Counting.{got_more}
+use Rattle.probe_tools.proofs.Counting.{got_more}
 use Rattle.engine.specs.Seeing.{counting, seen_by, seen_with, with_events}
 
 pub counting-append : (xs ys : List Event) (counts : Counts) → counting (xs ++ ys) counts ≡ counting ys (counting xs counts)

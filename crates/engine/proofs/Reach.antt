@@ -280,7 +280,7 @@ store-same : (cpu : Cpu) (m : Memory) (addr n : ℕ) (r : Result Memory Access) 
 store-same cpu m addr n (Ok after) = touch-same cpu (record cpu { pc = next cpu }) m after (touches_code after addr n) (record { start = addr; len = n })
 store-same cpu m addr n (Err a) = (refl, refl)
 
-same-step : (e : Effect) (cpu : Cpu) (m : Memory) → IsSame cpu m (performed e cpu m)
+pub same-step : (e : Effect) (cpu : Cpu) (m : Memory) → IsSame cpu m (performed e cpu m)
 same-step (effects.Set rd value) cpu m = tt
 same-step (effects.Jump rd target) cpu m = test-same cpu m (target % 4 == 0) _ _ tt (refl, refl)
 same-step (effects.Store addr size value) cpu m = store-same cpu m addr (size_of size) (stored m addr size value)

@@ -1,4 +1,7 @@
 mod Called
 mod Fetching
-mod Knowing
+pub mod Knowing
 mod Behind
+mod Owning
+pub mod Stepping
+pub mod Progress
