@@ -1,4 +1,5 @@
 mod Called
+mod Entering
 mod Fetching
 pub mod Knowing
 mod Behind
