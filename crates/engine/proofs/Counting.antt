@@ -35,7 +35,7 @@ counting-bound (e ∷ es) counts q =
     let one : count_at (with_more (key_of e) 1 counts) q ≤ count_at counts q + 1 = count-more counts (key_of e) 1 q in
     omega arith
 
-listed-few : (o : Option Event) → length (option_to_list o) ≤ 1
+pub listed-few : (o : Option Event) → length (option_to_list o) ≤ 1
 listed-few None = omega arith
 listed-few (Some e) = omega arith
 

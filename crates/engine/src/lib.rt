@@ -9,3 +9,4 @@ mod block;
 mod probing;
 
 pub use block::{Left, run_block};
+pub use probing::{event_of_access, event_of_call};

@@ -73,14 +73,15 @@ fn event_of(kind: ProbeKind, cpu: &Cpu, word: u32) -> Option<Event>
     let ins = decode(word, cpu.isa);
     match kind {
         ProbeKind::Block => Some(Event::Block { at: cpu.pc }),
-        ProbeKind::Call => call(ins, cpu),
-        ProbeKind::Load => access(ins, cpu),
-        ProbeKind::Store => access(ins, cpu),
+        ProbeKind::Call => event_of_call(ins, cpu),
+        ProbeKind::Load => event_of_access(ins, cpu),
+        ProbeKind::Store => event_of_access(ins, cpu),
     }
 }
 
-// The event of a call.
-fn call(ins: Ins, cpu: &Cpu) -> Option<Event>
+/// The event of a jump that is a call: the address that it jumps to, computed before it. None where the instruction is no
+/// JAL and no JALR.
+pub fn event_of_call(ins: Ins, cpu: &Cpu) -> Option<Event>
     requires { NamesRegisters ins }
     ensures { result ≡ option_map (Event.Call cpu.now.pc) (target_of ins cpu.now) }
 {
@@ -92,8 +93,8 @@ fn call(ins: Ins, cpu: &Cpu) -> Option<Event>
     Some(Event::Call { at: cpu.pc, to })
 }
 
-// The event of a load or a store.
-fn access(ins: Ins, cpu: &Cpu) -> Option<Event>
+/// The event of a load or a store, at the address that it is to reach. None where the instruction is neither.
+pub fn event_of_access(ins: Ins, cpu: &Cpu) -> Option<Event>
     requires { NamesRegisters ins }
     ensures { result ≡ option_map (access_event cpu.now.pc) (access_of ins cpu.now) }
 {

@@ -1,8 +1,8 @@
-mod Called
-mod Entering
-mod Fetching
+pub mod Called
+pub mod Entering
+pub mod Fetching
 pub mod Knowing
-mod Behind
-mod Owning
+pub mod Behind
+pub mod Owning
 pub mod Stepping
 pub mod Progress

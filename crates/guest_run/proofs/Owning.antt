@@ -26,7 +26,7 @@ IsQuiet (Maps k next) = ⊥
 IsQuiet (Unmaps k next) = Unit {0}
 IsQuiet (Replaces k f next) = ⊥
 
-skips : (w : Setting) (files : List ℕ) (states : List State) (a : Action) → IsQuiet a → taken_by files a ++ own_answers w (files_after w files a) states ≡ own_answers w files states
+pub skips : (w : Setting) (files : List ℕ) (states : List State) (a : Action) → IsQuiet a → taken_by files a ++ own_answers w (files_after w files a) states ≡ own_answers w files states
 skips w files states Unfetched quiet = refl
 skips w files states (Ends end) quiet = refl
 skips w files states (Goes next) quiet = refl

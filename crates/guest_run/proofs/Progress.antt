@@ -35,11 +35,15 @@ pub progress-start : (w : Setting) (tool : Tool) (max fuel : ℕ) (s : State) (f
     Progress w tool max fuel s files fuel s counts files maps maps
 progress-start w tool max fuel s files counts maps are = record { marks = []; taken = []; took = sym (append-nil maps); own = λ states. refl; seen = λ answers. refl; rows = are }
 
-states-both : (xs ys : List (State × Bool)) (states : List State) → states_of (xs ++ ys) ++ states ≡ states_of xs ++ (states_of ys ++ states)
+pub states-both : (xs ys : List (State × Bool)) (states : List State) → states_of (xs ++ ys) ++ states ≡ states_of xs ++ (states_of ys ++ states)
 states-both [] ys states = refl
 states-both (x ∷ xs) ys states = ap (λ zs. x.0 ∷ zs) (states-both xs ys states)
 
-events-both : (tool : Tool) (xs ys : List (State × Bool)) → events tool (xs ++ ys) ≡ events tool xs ++ events tool ys
+pub states-all : (xs ys : List (State × Bool)) → states_of (xs ++ ys) ≡ states_of xs ++ states_of ys
+states-all [] ys = refl
+states-all (x ∷ xs) ys = ap (λ zs. x.0 ∷ zs) (states-all xs ys)
+
+pub events-both : (tool : Tool) (xs ys : List (State × Bool)) → events tool (xs ++ ys) ≡ events tool xs ++ events tool ys
 events-both tool xs ys = flat_map-append (seen tool) xs ys
 
 -- some states more
@@ -81,10 +85,6 @@ progress-finishes w tool max fuel s files left now next counts more later before
       ∙ with-more p.marks f.marks (over end next.io.output []);
   rows = subst (λ es. AreRows es more) (sym (events-both tool p.marks f.marks)) (f.counted (events tool p.marks) p.rows);
 }
-  where
-    states-all : (xs ys : List (State × Bool)) → states_of (xs ++ ys) ≡ states_of xs ++ states_of ys
-    states-all [] ys = refl
-    states-all (x ∷ xs) ys = ap (λ zs. x.0 ∷ zs) (states-all xs ys)
 
 -- the fuel is spent
 pub progress-spent : (w : Setting) (tool : Tool) (max fuel : ℕ) (s : State) (files : List ℕ) (left : ℕ) (now : State) (counts : Counts) (later before maps : List ℕ) → left ≡ 0 →

@@ -10,17 +10,17 @@ use Rattle.plain_machine.specs.declared.access.Access.TheVariants.{NotMapped}
 use Rattle.plain_machine.specs.declared.cpu.Cpu.{Cpu}
 use Rattle.plain_machine.specs.Region.{Area, holds, bytes_at}
 use Rattle.plain_machine.specs.Memory.{Memory, IsMemory, has_code, fetched, as_code, reach, number_of, region_at}
-use Rattle.plain_machine.specs.Machine.{State, turn, turn_at, Unfetched}
+use Rattle.plain_machine.specs.Machine.{State, action, action_at, Unfetched}
 use Rattle.plain_machine.specs.Io.{Io}
 use Rattle.plain_machine.specs.Cut.{leaves}
 use Rattle.guest_mem.specs.Results.{Shows}
-use Rattle.engine.specs.Engine.{state}
+use Rattle.engine.specs.Standing.{state}
 use Rattle.engine.proofs.KeptCode.{holds-found, holds-none}
 use Rattle.plain_run.specs.Places.{LiesAt}
 
 -- what cannot be fetched
-pub unfetched : (cpu : Cpu) (m : Memory) (e : Access) → Err e ≡ fetched m cpu.pc → (io : Io) → turn (state cpu m io) ≡ Unfetched
-unfetched cpu m e is io = ap (λ r. turn_at r (state cpu m io)) (sym is)
+pub unfetched : (cpu : Cpu) (m : Memory) (e : Access) → Err e ≡ fetched m cpu.pc → (io : Io) → action (state cpu m io) ≡ Unfetched
+unfetched cpu m e is io = ap (λ r. action_at r (state cpu m io)) (sym is)
 
 lost : (m : Memory) (x word : ℕ) → find (holds x 4) m ≡ None → fetched m x ≡ Ok word → ⊥
 lost m x word gone is =

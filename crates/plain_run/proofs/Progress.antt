@@ -1,100 +1,108 @@
 -- How far a guest has come between two instructions.
-use Rattle.std.proofs.Common.{◌≡◌, ℕ, ◌+◌, ◌<◌, ◌≤◌, ◌-◌, ◌==◌, ◌^◌, zero, suc, List, [], ◌∷◌, ◌++◌, length, Option, None, unwrap_or, refl, sym, ◌∙◌, ap, subst, arith, append_assoc, length-append}
-use Rattle.std.proofs.lemmas.List.Sums.{count_by-le-length}
+use Rattle.std.proofs.Common.{◌≡◌, ℕ, ◌+◌, ◌-◌, ◌<◌, zero, suc, Bool, List, [], ◌∷◌, ◌++◌, Option, None, refl, sym, ◌∙◌, ap, subst, arith, append_assoc}
 use Rattle.std.proofs.lemmas.List.{append-nil}
-use Rattle.std.specs.Map.{lookup}
-use Rattle.std.specs.BTreeMap.{is_at}
-use Rattle.std.specs.Ordering.{nat_cmp}
+use Rattle.probe_tools.specs.declared.tool.Tool.{Tool}
+use Rattle.probe_tools.specs.Rows.{AreRows, Counts}
 use Rattle.plain_machine.specs.declared.ends.End.{End}
 use Rattle.plain_machine.specs.declared.ends.End.TheVariants as ends
 use Rattle.plain_machine.specs.Region.{Area}
 use Rattle.plain_machine.specs.Machine.{State, Setting}
 use Rattle.plain_machine.specs.Run.{run}
-use Rattle.plain_machine.specs.Rows.{AreRows}
-use Rattle.plain_machine.specs.Sight.{sight, sight_of}
-use Rattle.plain_machine.proofs.RunLaws.{run-zero}
-use Rattle.guest_run.specs.Moves.{RunsFrom, told}
-use Rattle.guest_run.specs.Answer.{AreTheFile}
-use Rattle.guest_run.proofs.RowsMore.{counted}
+use Rattle.plain_machine.specs.Cut.{marked_in, marked, with_marks, over}
+use Rattle.plain_machine.specs.Own.{own_answers}
+use Rattle.plain_machine.specs.Events.{events}
+use Rattle.plain_machine.proofs.RunLaws.{run-zero, with-more}
+use Rattle.guest_run.specs.Moves.{RunsFrom, states_of}
+use Rattle.guest_run.proofs.Progress.{states-both, states-all, events-both}
 use Rattle.plain_run.specs.declared.block.OpenBlock.{OpenBlock}
 use Rattle.plain_run.specs.Places.{LiesAt}
-use Rattle.plain_run.specs.Steps.{Moves, Finishes, first}
+use Rattle.plain_run.specs.Steps.{Moves, Finishes}
 
--- A run from s has come to now, with this block open, these rows for what was seen, and these map answers.
-pub record Progress (w : Setting) (fuel : ℕ) (s : State) (left : ℕ) (block : OpenBlock) (now : State) (rows : List (ℕ × ℕ)) (before maps : List ℕ) : Type 0 where
+-- A run from s has come to now, with this block open, these counts, these files of the modules, and these map answers.
+pub record Progress (w : Setting) (tool : Tool) (max fuel : ℕ) (s : State) (files : List ℕ) (left : ℕ) (block : OpenBlock) (now : State) (counts : Counts) (later before maps : List ℕ) : Type 0 where
+  pub marks : List (State × Bool)
   pub taken : List ℕ
   pub took : maps ≡ before ++ taken
-  pub files : AreTheFile taken
-  pub blocks : List ℕ
+  pub own : (states : List State) → own_answers w files (states_of marks ++ states) ≡ taken ++ own_answers w later states
   pub region : Option Area
   pub lies : LiesAt block.region region
-  pub seen : (answers : List ℕ) → sight_of 16 (run w fuel (taken ++ answers) s) ≡ first blocks (sight 16 block.room region (run w left answers now))
-  pub report : AreRows blocks rows
-  pub spent : length blocks + left ≤ fuel
+  pub seen : (answers : List ℕ) → marked max (run w fuel (taken ++ answers) s) ≡ with_marks marks (marked_in max block.room region (run w left answers now))
+  pub rows : AreRows (events tool marks) counts
 
-pub progress-start : (w : Setting) (fuel : ℕ) (s : State) (rows : List (ℕ × ℕ)) (maps : List ℕ) → AreRows [] rows →
-    Progress w fuel s fuel (record { room = 0; region = None }) s rows maps maps
-progress-start w fuel s rows maps are = record { taken = []; took = sym (append-nil maps); files = tt; blocks = []; region = None; lies = tt; seen = λ answers. refl; report = are; spent = omega arith }
-
--- each count is small
-pub progress-small : (w : Setting) (fuel : ℕ) (s : State) (left : ℕ) (block : OpenBlock) (now : State) (rows : List (ℕ × ℕ)) (before maps : List ℕ) → fuel ≤ 1000000000 →
-    Progress w fuel s left block now rows before maps → (key : ℕ) → unwrap_or (lookup (is_at (nat_cmp key)) rows) 0 < 2 ^ 63
-progress-small w fuel s left block now rows before maps fits p key =
-    rw (counted p.blocks rows key p.report) (omega (arith, count_by-le-length (λ e. e == key) p.blocks, p.spent, fits))
-
-both_files : (xs ys : List ℕ) → AreTheFile xs → AreTheFile ys → AreTheFile (xs ++ ys)
-both_files [] ys p q = q
-both_files (x ∷ xs) ys p q = (p.0, both_files xs ys p.1 q)
+pub progress-start : (w : Setting) (tool : Tool) (max fuel : ℕ) (s : State) (files : List ℕ) (counts : Counts) (maps : List ℕ) → AreRows [] counts →
+    Progress w tool max fuel s files fuel (record { room = 0; region = None }) s counts files maps maps
+progress-start w tool max fuel s files counts maps are = record {
+  marks = [];
+  taken = [];
+  took = sym (append-nil maps);
+  own = λ states. refl;
+  region = None;
+  lies = tt;
+  seen = λ answers. refl;
+  rows = are;
+}
 
 -- one instruction more
-moves-one : (w : Setting) (fuel : ℕ) (s : State) (left : ℕ) (block : OpenBlock) (now : State) (rows more : List (ℕ × ℕ)) (before maps gained : List ℕ) (block_after : OpenBlock) (next : State) →
-    (p : Progress w fuel s (suc left) block now rows before maps) → Moves w 16 block p.region now block_after next rows more maps gained → Progress w fuel s left block_after next more before gained
-moves-one w fuel s left block now rows more before maps gained block_after next p m = record {
+moves-one : (w : Setting) (tool : Tool) (max fuel : ℕ) (s : State) (files : List ℕ) (left : ℕ) (block : OpenBlock) (now : State) (counts more : Counts) (later last before maps gained : List ℕ) (block_after : OpenBlock) (next : State) →
+    (p : Progress w tool max fuel s files (suc left) block now counts later before maps) → Moves w tool max block p.region now block_after next counts more later last maps gained →
+    Progress w tool max fuel s files left block_after next more last before gained
+moves-one w tool max fuel s files left block now counts more later last before maps gained block_after next p m = record {
+  marks = p.marks ++ m.marks;
   taken = p.taken ++ m.taken;
   took = m.took ∙ ap (λ xs. xs ++ m.taken) p.took ∙ append_assoc before p.taken m.taken;
-  files = both_files p.taken m.taken p.files m.files;
-  blocks = p.blocks ++ m.blocks;
+  own = λ states.
+      ap (own_answers w files) (states-both p.marks m.marks states)
+      ∙ p.own (states_of m.marks ++ states)
+      ∙ ap (λ xs. p.taken ++ xs) (m.own states)
+      ∙ sym (append_assoc p.taken m.taken (own_answers w last states));
   region = m.region;
   lies = m.lies;
   seen = λ answers.
-      ap (λ xs. sight_of 16 (run w fuel xs s)) (append_assoc p.taken m.taken answers)
+      ap (λ xs. marked max (run w fuel xs s)) (append_assoc p.taken m.taken answers)
       ∙ p.seen (m.taken ++ answers)
-      ∙ ap (first p.blocks) (m.seen left answers)
-      ∙ ap (λ bs. record (sight 16 block_after.room m.region (run w left answers next)) { blocks = bs }) (sym (append_assoc p.blocks m.blocks (sight 16 block_after.room m.region (run w left answers next)).blocks));
-  report = m.counted p.blocks p.report;
-  spent = omega (arith, length-append p.blocks m.blocks, p.spent, m.few);
+      ∙ ap (with_marks p.marks) (m.seen left answers)
+      ∙ with-more p.marks m.marks (marked_in max block_after.room m.region (run w left answers next));
+  rows = subst (λ es. AreRows es more) (sym (events-both tool p.marks m.marks)) (m.counted (events tool p.marks) p.rows);
 }
 
-pub progress-moves : (w : Setting) (fuel : ℕ) (s : State) (left : ℕ) (block : OpenBlock) (now : State) (rows more : List (ℕ × ℕ)) (before maps gained : List ℕ) (block_after : OpenBlock) (next : State) →
-    0 < left → (p : Progress w fuel s left block now rows before maps) → Moves w 16 block p.region now block_after next rows more maps gained → Progress w fuel s (left - 1) block_after next more before gained
-progress-moves w fuel s zero block now rows more before maps gained block_after next some p m = absurd (omega arith)
-progress-moves w fuel s (suc left) block now rows more before maps gained block_after next some p m =
-    let less : left ≡ suc left - 1 = omega arith in
-    subst (λ n. Progress w fuel s n block_after next more before gained) less (moves-one w fuel s left block now rows more before maps gained block_after next p m)
+pub progress-moves : (w : Setting) (tool : Tool) (max fuel : ℕ) (s : State) (files : List ℕ) (left less : ℕ) (block : OpenBlock) (now : State) (counts more : Counts) (later last before maps gained : List ℕ) (block_after : OpenBlock) (next : State) →
+    0 < left → less ≡ left - 1 → (p : Progress w tool max fuel s files left block now counts later before maps) → Moves w tool max block p.region now block_after next counts more later last maps gained →
+    Progress w tool max fuel s files less block_after next more last before gained
+progress-moves w tool max fuel s files zero less block now counts more later last before maps gained block_after next some spent p m = absurd (omega arith)
+progress-moves w tool max fuel s files (suc left) less block now counts more later last before maps gained block_after next some spent p m =
+    let same : left ≡ less = omega arith in
+    subst (λ n. Progress w tool max fuel s files n block_after next more last before gained) same (moves-one w tool max fuel s files left block now counts more later last before maps gained block_after next p m)
 
 -- the end
-pub progress-finishes : (w : Setting) (fuel : ℕ) (s : State) (left : ℕ) (block : OpenBlock) (now next : State) (rows more : List (ℕ × ℕ)) (before maps gained : List ℕ) (end : End) →
-    0 < left → (p : Progress w fuel s left block now rows before maps) → Finishes w 16 block p.region now next rows more maps gained end → RunsFrom w 16 fuel s before gained end next.io.output more
-progress-finishes w fuel s zero block now next rows more before maps gained end some p f = absurd (omega arith)
-progress-finishes w fuel s (suc left) block now next rows more before maps gained end some p f = record {
+pub progress-finishes : (w : Setting) (tool : Tool) (max fuel : ℕ) (s : State) (files : List ℕ) (left : ℕ) (block : OpenBlock) (now next : State) (counts more : Counts) (later before maps gained : List ℕ) (end : End) →
+    0 < left → (p : Progress w tool max fuel s files left block now counts later before maps) → Finishes w tool max block p.region now next counts more later maps gained end →
+    RunsFrom w tool max fuel s files before gained end next.io.output more
+progress-finishes w tool max fuel s files zero block now next counts more later before maps gained end some p f = absurd (omega arith)
+progress-finishes w tool max fuel s files (suc left) block now next counts more later before maps gained end some p f = record {
+  marks = p.marks ++ f.marks;
   taken = p.taken;
   took = f.same ∙ p.took;
-  files = p.files;
-  blocks = p.blocks ++ f.blocks;
-  seen = ap (λ xs. sight_of 16 (run w fuel xs s)) (sym (append-nil p.taken)) ∙ p.seen [] ∙ ap (first p.blocks) (f.seen left []);
-  report = f.counted p.blocks p.report;
+  own =
+      sym (append-nil p.taken)
+      ∙ ap (λ xs. p.taken ++ xs) (sym f.own)
+      ∙ sym (p.own (states_of f.marks))
+      ∙ ap (own_answers w files) (sym (states-all p.marks f.marks));
+  seen =
+      ap (λ xs. marked max (run w fuel xs s)) (sym (append-nil p.taken)) ∙ p.seen [] ∙ ap (with_marks p.marks) (f.seen left [])
+      ∙ with-more p.marks f.marks (over end next.io.output []);
+  rows = subst (λ es. AreRows es more) (sym (events-both tool p.marks f.marks)) (f.counted (events tool p.marks) p.rows);
 }
 
 -- the fuel is spent
-pub progress-spent : (w : Setting) (fuel : ℕ) (s : State) (left : ℕ) (block : OpenBlock) (now : State) (rows : List (ℕ × ℕ)) (before maps : List ℕ) → left ≡ 0 →
-    Progress w fuel s left block now rows before maps → RunsFrom w 16 fuel s before maps ends.Fuel now.io.output rows
-progress-spent w fuel s zero block now rows before maps spent p = record {
+pub progress-spent : (w : Setting) (tool : Tool) (max fuel : ℕ) (s : State) (files : List ℕ) (left : ℕ) (block : OpenBlock) (now : State) (counts : Counts) (later before maps : List ℕ) → left ≡ 0 →
+    Progress w tool max fuel s files left block now counts later before maps → RunsFrom w tool max fuel s files before maps ends.Fuel now.io.output counts
+progress-spent w tool max fuel s files (suc left) block now counts later before maps spent p = absurd (omega arith)
+progress-spent w tool max fuel s files zero block now counts later before maps spent p = record {
+  marks = p.marks;
   taken = p.taken;
   took = p.took;
-  files = p.files;
-  blocks = p.blocks;
-  seen = ap (λ xs. sight_of 16 (run w fuel xs s)) (sym (append-nil p.taken)) ∙ p.seen [] ∙ ap (λ r. first p.blocks (sight 16 block.room p.region r)) (run-zero w [] now)
-      ∙ ap (λ bs. told bs ends.Fuel now.io.output []) (append-nil p.blocks);
-  report = p.report;
+  own = sym (append-nil p.taken) ∙ sym (p.own []) ∙ ap (own_answers w files) (append-nil (states_of p.marks));
+  seen =
+      ap (λ xs. marked max (run w fuel xs s)) (sym (append-nil p.taken)) ∙ p.seen [] ∙ ap (λ r. with_marks p.marks (marked_in max block.room p.region r)) (run-zero w [] now);
+  rows = p.rows;
 }
-progress-spent w fuel s (suc left) block now rows before maps spent p = absurd (omega arith)

@@ -7,11 +7,9 @@ ghost use Rattle.plain_machine.specs.Cut.{begins, ends_block, leaves, touched};
 ghost use Rattle.plain_run.specs.Places.{LiesAt};
 
 use cc_base::{Span, holds_word};
+use fragment::ends_block;
 use plain_machine::{Cpu, Done};
 use rv_decode::Ins;
-
-/// The most instructions of a block.
-const MAX: u8 = 16;
 
 /// The block that is open: how many more instructions it may take, and where the region lies that the instruction
 /// before is in, if there was one.
@@ -40,14 +38,14 @@ fn leaves(region: Option<Span>, pc: u32) -> bool
     }
 }
 
-/// How many more instructions a block may take behind one that begins it or not, and closes it or not.
-pub fn room_after(room: u8, begun: bool, closes: bool) -> u8
-    ensures { result ≡ (if closes then 0 else (if begun then 16 - 1 else room - 1)) }
+/// How many more instructions a block of at most `max` may take behind one that begins it or not, and closes it or not.
+pub fn room_after(max: u8, room: u8, begun: bool, closes: bool) -> u8
+    ensures { result ≡ (if closes then 0 else (if begun then max - 1 else room - 1)) }
 {
     if closes {
         0
     } else if begun {
-        MAX - 1
+        max.saturating_sub(1)
     } else {
         room.saturating_sub(1)
     }
@@ -57,26 +55,7 @@ pub fn room_after(room: u8, begun: bool, closes: bool) -> u8
 pub fn closes(ins: Ins, done: &Done) -> bool
     ensures { (c : Cpu) (m : Memory) → result ≡ (ends_block ins || touched (done.now, c, m)) }
 {
-    ends_block(ins) || is_touched(done)
-}
-
-fn ends_block(ins: Ins) -> bool
-    ensures { result ≡ ends_block ins }
-{
-    match ins {
-        Ins::Jal { .. }
-        | Ins::Jalr { .. }
-        | Ins::Beq { .. }
-        | Ins::Bne { .. }
-        | Ins::Blt { .. }
-        | Ins::Bge { .. }
-        | Ins::Bltu { .. }
-        | Ins::Bgeu { .. }
-        | Ins::Ecall
-        | Ins::Ebreak
-        | Ins::None => true,
-        _ => false,
-    }
+    ends_block(&ins) || is_touched(done)
 }
 
 // Whether it was a store into code.

@@ -1,9 +1,9 @@
 // The word at the program counter, and the region that it is in.
 ghost use Rattle.std.specs.Prelude.{◌≡◌, None, Some, Ok, IfSome};
 ghost use Rattle.plain_machine.specs.Io.{Io};
-ghost use Rattle.plain_machine.specs.Machine.{Unfetched, turn};
+ghost use Rattle.plain_machine.specs.Machine.{Unfetched, action};
 ghost use Rattle.plain_machine.specs.Memory.{fetched, region_at};
-ghost use Rattle.engine.specs.Engine.{state};
+ghost use Rattle.engine.specs.Standing.{state};
 ghost use Rattle.plain_run.specs.Places.{LiesAt};
 
 use cc_base::Span;
@@ -19,7 +19,7 @@ pub struct Found {
 
 /// The word at the program counter. There is none where it is not wholly in one executable region.
 pub fn find(cpu: &Cpu, mem: &Mem) -> Option<Found>
-    ensures none { result ≡ None → (io : Io) → turn (state cpu.now mem.now io) ≡ Unfetched }
+    ensures none { result ≡ None → (io : Io) → action (state cpu.now mem.now io) ≡ Unfetched }
     ensures word { IfSome result (λ found. fetched mem.now cpu.now.pc ≡ Ok found.word) }
     ensures region { IfSome result (λ found. LiesAt (Some found.region) (region_at mem.now cpu.now.pc 4)) }
 {

@@ -1,85 +1,82 @@
 // The whole run of a guest.
-ghost use Rattle.std.specs.Prelude.{◌≡◌, ◌≤◌, ◌%◌, IfOk};
-ghost use Rattle.plain_machine.specs.Program.{top_of};
-ghost use Rattle.engine.specs.Engine.{state};
-ghost use Rattle.guest_run.specs.Plain.{one_file, row_of, IsPlainRun};
+ghost use Rattle.std.specs.Prelude.{◌≡◌, ◌<◌, [], ◌∷◌, length, IfOk};
+ghost use Rattle.std.specs.FinMap as fin;
+ghost use Rattle.plain_machine.specs.Plain.{IsPlainRun};
+ghost use Rattle.guest_run.specs.Plain.{one_module, guest_of};
 ghost use Rattle.guest_run.specs.Moves.{RunsFrom};
+ghost use Rattle.guest_run.specs.Ready.{IsReady, state_of};
 
 use crate::block::OpenBlock;
 use crate::step::step;
 use cc_base::Blob;
 use elf_map::Elf;
-use guest_run::{Guest, Process, Ran, start};
+use guest_run::{Module, Process, Ran, Setup, start};
 use plain_machine::End;
+use report::Report;
 use std::alloc::{AllocError, Global};
-use std::collections::BTreeMap;
 
-/// Runs a guest whose program is the one file, with its one module at this base, and this input, one instruction at a
-/// time. What is told of it is what is told of a run by blocks of at most 16 instructions. `AllocError` says that the
-/// host has no memory left.
+/// Runs a guest that is alone, whose one module is one of these files, one instruction at a time. What is told of it is
+/// what is told of its run by blocks.
 pub fn interpret(
     alloc: Global,
-    elf: &Elf,
-    base: u32,
-    guest: &Guest,
-    input: &[u8],
+    elfs: &[Elf],
+    module: Module,
+    setup: &Setup,
 ) -> Result<Ran, AllocError>
-    ensures { IfOk result (λ ran. IsPlainRun (one_file elf.now base) (row_of guest.now input.now) 16 ran.maps.items ran.end ran.output ran.rows.entries) }
+    requires { «module».file < length elfs.now }
+    ensures plain { IfOk result (λ ran. IsPlainRun (one_module elfs.now «module».base) (guest_of setup.now) setup.now.tool setup.now.max («module».file ∷ []) ran.maps.items ran.end ran.output ran.report.counts) }
+    ensures tool { IfOk result (λ ran. ran.report.tool ≡ setup.now.tool) }
 {
     let mut maps = Vec::new(alloc);
-    maps.push(0)?;
-    match start(alloc, elf, base, guest, input)? {
+    maps.push(module.file)?;
+    match start(alloc, elfs, module, setup)? {
         None => Ok(Ran {
             end: End::Unplaced,
             maps,
             output: Blob::from_vec(Vec::new(alloc)),
-            rows: BTreeMap::new(alloc),
+            report: Report::new(alloc, setup.tool),
         }),
-        Some(process) => run_from(alloc, elf, base, guest.fuel, process, maps),
+        Some(process) => run_from(elfs, module.base, setup, process, maps),
     }
 }
 
 // Runs on from a state.
 fn run_from(
-    alloc: Global,
-    elf: &Elf,
+    elfs: &[Elf],
     base: u32,
-    fuel: u64,
+    setup: &Setup,
     process: Process,
     maps: Vec<u32>,
 ) -> Result<Ran, AllocError>
-    requires top { top_of elf.now base ≤ 4294967295 }
-    requires aligned { process.cpu.pc % 4 ≡ 0 }
-    requires fits { fuel ≤ 1000000000 }
-    ensures { IfOk result (λ ran. RunsFrom (one_file elf.now base) 16 fuel (state process.cpu process.mem process.io) maps.items ran.maps.items ran.end ran.output ran.rows.entries) }
+    requires ready { IsReady elfs.now base setup.now.tool process }
+    requires empty { process.report.counts ≡ fin.empty }
+    ensures runs { IfOk result (λ ran. RunsFrom (one_module elfs.now base) setup.now.tool setup.now.max process.left (state_of process) (process.file ∷ []) maps.items ran.maps.items ran.end ran.output ran.report.counts) }
+    ensures tool { IfOk result (λ ran. ran.report.tool ≡ setup.now.tool) }
 {
     let mut process = process;
     let mut maps = maps;
-    let mut rows = BTreeMap::new(alloc);
     let mut block = OpenBlock {
         room: 0,
         region: None,
     };
-    let mut left = fuel;
-    while left > 0 {
-        let reached = step(elf, base, &mut process, &mut block, &mut rows, &mut maps)?;
-        left -= 1;
+    while process.left > 0 {
+        let reached = step(elfs, base, setup, &mut process, &mut block, &mut maps)?;
         if let Some(end) = reached {
-            return Ok(told(end, process, maps, rows));
+            return Ok(told(end, process, maps));
         }
     }
-    Ok(told(End::Fuel, process, maps, rows))
+    Ok(told(End::Fuel, process, maps))
 }
 
 // What is told of a guest that is at its end.
-fn told(end: End, process: Process, maps: Vec<u32>, rows: BTreeMap<u32, u64>) -> Ran
-    ensures { result ≡ record { end = end; maps = maps; output = process.io.output; rows = rows } }
+fn told(end: End, process: Process, maps: Vec<u32>) -> Ran
+    ensures { result ≡ record { end = end; maps = maps; output = process.io.output; report = process.report } }
 {
-    let Process { io, .. } = process;
+    let Process { io, report, .. } = process;
     Ran {
         end,
         maps,
         output: io.into_output(),
-        rows,
+        report,
     }
 }

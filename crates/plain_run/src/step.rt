@@ -1,42 +1,40 @@
 // One instruction of a guest.
-ghost use Rattle.std.specs.Prelude.{◌≡◌, ◌≤◌, ◌<◌, ◌%◌, ◌^◌, ℕ, None, Option, unwrap_or, IfOk, OnOk};
-ghost use Rattle.std.specs.BTreeMap.{get};
-ghost use Rattle.std.specs.Ordering.{nat_cmp};
-ghost use Rattle.plain_machine.specs.Program.{top_of};
+ghost use Rattle.std.specs.Prelude.{◌≡◌, ◌<◌, ◌-◌, ◌∷◌, [], None, Option, IfOk};
 ghost use Rattle.plain_machine.specs.Region.{Area};
-ghost use Rattle.engine.specs.Engine.{state};
-ghost use Rattle.guest_run.specs.Plain.{one_file};
-ghost use Rattle.guest_run.specs.Moves.{Counts};
+ghost use Rattle.guest_run.specs.Plain.{one_module};
+ghost use Rattle.guest_run.specs.Ready.{IsReady, state_of};
 ghost use Rattle.plain_run.specs.Places.{LiesAt};
-ghost use Rattle.plain_run.specs.Steps.{Steps, if_begun};
+ghost use Rattle.plain_run.specs.Steps.{OneWord};
 
 use crate::block::{OpenBlock, closes, room_after};
+use crate::events::count;
 use crate::find::find;
 use cc_base::Span;
 use elf_map::Elf;
-use guest_run::{Process, add, answer};
+use guest_run::{Process, Setup, answer};
 use plain_machine::{Done, End, Kind};
 use rv_decode::decode;
 use rv_exec::exec;
 use std::alloc::AllocError;
-use std::collections::BTreeMap;
 
-/// Does the instruction at the program counter, with the answer to a call, and counts the block that it begins, if it
-/// begins one. It answers the end where the guest ends.
+/// Does the instruction at the program counter, with the answer to a call, and counts what the tool sees of it. It answers
+/// the end where the guest ends.
 pub fn step(
-    elf: &Elf,
+    elfs: &[Elf],
     base: u32,
+    setup: &Setup,
     process: &mut Process,
     block: &mut OpenBlock,
-    rows: &mut BTreeMap<u32, u64>,
     maps: &mut Vec<u32>,
 ) -> Result<Option<End>, AllocError>
-    requires top { top_of elf.now base ≤ 4294967295 }
-    requires aligned { process.old.cpu.pc % 4 ≡ 0 }
-    requires small { (key : ℕ) → unwrap_or (get nat_cmp rows.old key) 0 < 2 ^ 63 }
+    requires ready { IsReady elfs.now base setup.now.tool process.old }
+    requires fuel { 0 < process.old.left }
     ensures steps { (place : Option Area) → LiesAt block.old.region place →
-        IfOk result (Steps (one_file elf.now base) 16 block.old place (state process.old.cpu process.old.mem process.old.io) block.new (state process.new.cpu process.new.mem process.new.io) rows.old.entries rows.new.entries maps.old.items maps.new.items) }
-    ensures aligned { IfOk result (λ end. end ≡ None → process.new.cpu.pc % 4 ≡ 0) }
+        IfOk result (OneWord (one_module elfs.now base) setup.now.tool setup.now.max block.old place (state_of process.old) block.new (state_of process.new)
+        process.old.report.counts process.new.report.counts (process.old.file ∷ []) (process.new.file ∷ []) maps.old.items maps.new.items) }
+    ensures spends { IfOk result (λ end. end ≡ None → process.new.left ≡ process.old.left - 1) }
+    ensures ready { IfOk result (λ end. end ≡ None → IsReady elfs.now base setup.now.tool process.new) }
+    ensures tool { IfOk result (λ end. process.new.report.tool ≡ setup.now.tool) }
 {
     let pc = process.cpu.pc;
     let Some(found) = find(&process.cpu, &process.mem) else {
@@ -45,11 +43,12 @@ pub fn step(
             pc,
         }));
     };
-    let begun = block.is_left_at(pc);
-    count(rows, begun, pc)?;
+    let begins = block.is_left_at(pc);
     let ins = decode(found.word, process.cpu.isa);
+    count(&mut process.report, &process.cpu, ins, begins)?;
+    process.left -= 1;
     let done = exec(&mut process.cpu, &mut process.mem, found.word);
-    block.room = room_after(block.room, begun, closes(ins, &done));
+    block.room = room_after(setup.max, block.room, begins, closes(ins, &done));
     block.region = Some(found.region);
     match done {
         Done::Next => Ok(None),
@@ -60,23 +59,13 @@ pub fn step(
         }
         Done::Fault(kind) => Ok(Some(End::Fault { kind, pc })),
         Done::Asked => answer(
-            elf,
+            elfs,
             base,
             &mut process.cpu,
             &mut process.mem,
             &mut process.io,
+            &mut process.file,
             maps,
         ),
     }
-}
-
-// Counts the block that the instruction at `pc` begins, if it begins one.
-fn count(rows: &mut BTreeMap<u32, u64>, begun: bool, pc: u32) -> Result<(), AllocError>
-    requires { (key : ℕ) → unwrap_or (get nat_cmp rows.old key) 0 < 2 ^ 63 }
-    ensures { OnOk result (Counts (if_begun begun pc) rows.old.entries rows.new.entries) }
-{
-    if begun {
-        add(rows, pc)?;
-    }
-    Ok(())
 }

@@ -8,4 +8,4 @@ returns-in_err-code-clause-none c = λ none. unfetched-none c.args.cpu.now c.arg
 
 pub returns-clause-region : goal.returns-clause-region
 returns-clause-region c =
-    region-shown c.args.cpu.now.pc c.in-Ok.word c.args.mem.now c.in_ok-code.code _ c.in_ok-code.ensures.memory refl c.in_ok-code.ensures.shown (sym c.in-Ok.ensures)
+    region-shown c.args.cpu.now.pc c.in-Ok.word c.args.mem.now c.in_ok-code.code _ c.in_ok-code.ensures.memory refl c.in_ok-code.ensures.shown (sym c.in-Ok.ensures.value)

@@ -1,53 +1,59 @@
-use Rattle.std.proofs.Common.{arith}
+use Rattle.std.proofs.Common.{◌≡◌, ◌∷◌, [], arith}
 use Rattle.plain_machine.specs.Machine.{State}
-use Rattle.engine.specs.Engine.{state}
-use Rattle.guest_run.specs.Plain.{one_file}
-use Rattle.guest_run.proofs.Progress.{no_rows}
+use Rattle.guest_run.specs.Plain.{one_module}
+use Rattle.guest_run.specs.Ready.{state_of}
+use Rattle.guest_run.proofs.Progress.{no-rows}
 use Rattle.plain_run.specs.Steps.{Moves, Finishes}
-use Rattle.plain_run.proofs.Progress.{progress-start, progress-small, progress-moves, progress-finishes, progress-spent}
+use Rattle.plain_run.proofs.Progress.{progress-start, progress-moves, progress-finishes, progress-spent}
 use Rattle.plain_run.proofs.run.run_from.Goals as goal
 
-pub loop-left-init : goal.loop-left-init
-loop-left-init c = record {
-  progress = progress-start (one_file c.args.elf.now c.args.base) c.args.fuel (state c.args.process.cpu c.args.process.mem c.args.process.io) c.new-rows.result.entries c.args.maps.items
-      (no_rows c.new-rows.result.entries c.new-rows.ensures.ordered c.new-rows.ensures.empty);
-  aligned = c.requires.aligned;
+pub loop-process-init : goal.loop-process-init
+loop-process-init c = record {
+  progress = progress-start (one_module c.args.elfs.now c.args.base) c.args.setup.now.tool c.args.setup.now.max c.args.process.left (state_of c.args.process) (c.args.process.file ∷ []) c.args.process.report.counts c.args.maps.items
+      (no-rows c.args.process.report.counts c.requires.empty);
+  ready = c.requires.ready;
 }
 
-pub step-requires-clause-small : goal.step-requires-clause-small
-step-requires-clause-small c =
-    progress-small (one_file c.args.elf.now c.args.base) c.args.fuel (state c.args.process.cpu c.args.process.mem c.args.process.io) c.loop-left.left c.loop-left.block
-    (state c.loop-left.process.cpu c.loop-left.process.mem c.loop-left.process.io) c.loop-left.rows.entries c.args.maps.items c.loop-left.maps.items c.requires.fits c.loop-left.invariant.progress
-
-pub returns-in-Some : goal.returns-in-Some
-returns-in-Some c =
-    let w = one_file c.args.elf.now c.args.base in
-    let now : State = state c.loop-left.process.cpu c.loop-left.process.mem c.loop-left.process.io in
-    let next : State = state c.step.new.process.cpu c.step.new.process.mem c.step.new.process.io in
-    let p = c.loop-left.invariant.progress in
-    let ends : Finishes w 16 c.loop-left.block p.region now next c.loop-left.rows.entries c.step.new.rows.entries c.loop-left.maps.items c.step.new.maps.items c.in-Some.end =
+pub returns-in-Some-clause-runs : goal.returns-in-Some-clause-runs
+returns-in-Some-clause-runs c =
+    let w = one_module c.args.elfs.now c.args.base in
+    let now : State = state_of c.loop-process.process in
+    let next : State = state_of c.step.new.process in
+    let p = c.loop-process.invariant.progress in
+    let ends : Finishes w c.args.setup.now.tool c.args.setup.now.max c.loop-process.block p.region now next c.loop-process.process.report.counts c.step.new.process.report.counts (c.loop-process.process.file ∷ [])
+        c.loop-process.maps.items c.step.new.maps.items c.in-Some.end =
     let h = c.in_ok-reached.ensures.steps p.region p.lies in rw c.in-Some.is at h in
     rw c.told.ensures
-    (progress-finishes w c.args.fuel (state c.args.process.cpu c.args.process.mem c.args.process.io) c.loop-left.left c.loop-left.block now next c.loop-left.rows.entries c.step.new.rows.entries
-    c.args.maps.items c.loop-left.maps.items c.step.new.maps.items c.in-Some.end (omega arith) p ends)
+    (progress-finishes w c.args.setup.now.tool c.args.setup.now.max c.args.process.left (state_of c.args.process) (c.args.process.file ∷ []) c.loop-process.process.left c.loop-process.block now next
+    c.loop-process.process.report.counts c.step.new.process.report.counts (c.loop-process.process.file ∷ []) c.args.maps.items c.loop-process.maps.items c.step.new.maps.items c.in-Some.end
+    (omega arith) p ends)
 
-pub loop-left-preserved : goal.loop-left-preserved
-loop-left-preserved c =
-    let w = one_file c.args.elf.now c.args.base in
-    let now : State = state c.loop-left.process.cpu c.loop-left.process.mem c.loop-left.process.io in
-    let next : State = state c.step.new.process.cpu c.step.new.process.mem c.step.new.process.io in
-    let p = c.loop-left.invariant.progress in
-    let moves : Moves w 16 c.loop-left.block p.region now c.step.new.block next c.loop-left.rows.entries c.step.new.rows.entries c.loop-left.maps.items c.step.new.maps.items =
+pub returns-in-Some-clause-tool : goal.returns-in-Some-clause-tool
+returns-in-Some-clause-tool c = rw c.told.ensures c.in_ok-reached.ensures.tool
+
+pub loop-process-preserved : goal.loop-process-preserved
+loop-process-preserved c =
+    let w = one_module c.args.elfs.now c.args.base in
+    let now : State = state_of c.loop-process.process in
+    let next : State = state_of c.step.new.process in
+    let p = c.loop-process.invariant.progress in
+    let moves : Moves w c.args.setup.now.tool c.args.setup.now.max c.loop-process.block p.region now c.step.new.block next c.loop-process.process.report.counts c.step.new.process.report.counts
+        (c.loop-process.process.file ∷ []) (c.step.new.process.file ∷ []) c.loop-process.maps.items c.step.new.maps.items =
     let h = c.in_ok-reached.ensures.steps p.region p.lies in rw c.in_default.is at h in
     record {
-      progress = progress-moves w c.args.fuel (state c.args.process.cpu c.args.process.mem c.args.process.io) c.loop-left.left c.loop-left.block now c.loop-left.rows.entries c.step.new.rows.entries
-          c.args.maps.items c.loop-left.maps.items c.step.new.maps.items c.step.new.block next (omega arith) p moves;
-      aligned = c.in_ok-reached.ensures.aligned c.in_default.is;
+      progress = progress-moves w c.args.setup.now.tool c.args.setup.now.max c.args.process.left (state_of c.args.process) (c.args.process.file ∷ []) c.loop-process.process.left c.step.new.process.left
+          c.loop-process.block now c.loop-process.process.report.counts c.step.new.process.report.counts (c.loop-process.process.file ∷ []) (c.step.new.process.file ∷ []) c.args.maps.items c.loop-process.maps.items c.step.new.maps.items
+          c.step.new.block next (omega arith) (c.in_ok-reached.ensures.spends c.in_default.is) p moves;
+      ready = c.in_ok-reached.ensures.ready c.in_default.is;
     }
 
-pub returns : goal.returns
-returns c =
-    let w = one_file c.args.elf.now c.args.base in
-    let now : State = state c.loop-left.process.cpu c.loop-left.process.mem c.loop-left.process.io in
+pub returns-clause-runs : goal.returns-clause-runs
+returns-clause-runs c =
+    let w = one_module c.args.elfs.now c.args.base in
+    let now : State = state_of c.loop-process.process in
     rw c.told-2.ensures
-    (progress-spent w c.args.fuel (state c.args.process.cpu c.args.process.mem c.args.process.io) c.loop-left.left c.loop-left.block now c.loop-left.rows.entries c.args.maps.items c.loop-left.maps.items (omega arith) c.loop-left.invariant.progress)
+    (progress-spent w c.args.setup.now.tool c.args.setup.now.max c.args.process.left (state_of c.args.process) (c.args.process.file ∷ []) c.loop-process.process.left c.loop-process.block now
+    c.loop-process.process.report.counts (c.loop-process.process.file ∷ []) c.args.maps.items c.loop-process.maps.items (omega arith) c.loop-process.invariant.progress)
+
+pub returns-clause-tool : goal.returns-clause-tool
+returns-clause-tool c = rw c.told-2.ensures c.loop-process.invariant.ready.tool

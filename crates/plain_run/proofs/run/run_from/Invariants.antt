@@ -1,14 +1,14 @@
-use Rattle.std.proofs.Common.{◌≡◌, ◌%◌}
-use Rattle.engine.specs.Engine.{state}
-use Rattle.guest_run.specs.Plain.{one_file}
+use Rattle.std.proofs.Common.{◌≡◌, ◌∷◌, []}
+use Rattle.guest_run.specs.Plain.{one_module}
+use Rattle.guest_run.specs.Ready.{IsReady, state_of}
 use Rattle.plain_run.proofs.Progress.{Progress}
 use Rattle.plain_run.proofs.run.run_from.Given as goal
 
-abbrev pub invariant-loop-left : goal.invariant-loop-left
-invariant-loop-left l = record {
-  progress : Progress (one_file l.elf l.base) l.fuel (state l.fn.process.cpu l.fn.process.mem l.fn.process.io) l.left l.block (state l.process.cpu l.process.mem l.process.io) l.rows.entries l.fn.maps.items l.maps.items;
-  aligned : l.process.cpu.pc % 4 ≡ 0;
+abbrev pub invariant-loop-process : goal.invariant-loop-process
+invariant-loop-process l = record {
+  progress : Progress (one_module l.elfs l.base) l.setup.tool l.setup.max l.fn.process.left (state_of l.fn.process) (l.fn.process.file ∷ []) l.process.left l.block (state_of l.process) l.process.report.counts (l.process.file ∷ []) l.fn.maps.items l.maps.items;
+  ready : IsReady l.elfs l.base l.setup.tool l.process;
 }
 
-abbrev pub decreases-loop-left : goal.decreases-loop-left
-decreases-loop-left l = l.left
+abbrev pub decreases-loop-process : goal.decreases-loop-process
+decreases-loop-process l = l.process.left
