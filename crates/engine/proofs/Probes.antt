@@ -26,7 +26,8 @@ use Rattle.plain_machine.specs.Memory.{fetched}
 use Rattle.plain_machine.specs.Events.{seen, seen_at, seen_before}
 use Rattle.fragment.specs.Parts.{Parts}
 use Rattle.fragment.specs.declared.Probe.{Probe}
-use Rattle.fragment.specs.Classes.{class_of, is_link}
+use Rattle.plain_machine.specs.Events.{is_link}
+use Rattle.fragment.specs.Classes.{class_of}
 use Rattle.fragment.specs.Build.{IsBuilt}
 use Rattle.fragment.specs.Probing.{probe_at, probes_before, probes_of, placed}
 use Rattle.fragment.proofs.Places.{IsNext, next_probe, no_probe, before-more}

@@ -1,14 +1,11 @@
 -- What tools tell apart among instructions.
-use Rattle.std.specs.Prelude.{ℕ, ◌==◌, ◌||◌, Bool, if◌then◌else◌}
+use Rattle.std.specs.Prelude.{ℕ, if◌then◌else◌}
 use Rattle.rv_decode.specs.declared.ins.Ins.{Ins}
 use Rattle.rv_decode.specs.declared.ins.Ins.TheVariants as ins
+use Rattle.plain_machine.specs.Events.{is_link}
 use Rattle.probe_tools.specs.declared.probe.Class.{Class}
 use Rattle.probe_tools.specs.declared.probe.Class.TheVariants.{Plain, Call, Jump, Branch, Load, Store, Ask, Break}
 use Rattle.probe_tools.specs.declared.probe.Class.TheVariants as classes
-
--- a link register: x1 or x5 (the unprivileged manual, "Unconditional Jumps")
-abbrev pub is_link : ℕ → Bool
-is_link rd = (rd == 1) || (rd == 5)
 
 -- a jump that keeps in rd where it came from
 abbrev pub jump_class : ℕ → Class

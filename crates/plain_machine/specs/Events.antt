@@ -15,7 +15,7 @@ use Rattle.plain_machine.specs.Memory.{fetched, size_of}
 use Rattle.plain_machine.specs.Step.{Accessed, access_of, target_of}
 use Rattle.plain_machine.specs.Machine.{State}
 
--- the link registers
+-- a link register: x1 or x5 (the unprivileged manual, "Unconditional Jumps")
 abbrev pub is_link : ℕ → Bool
 is_link rd = (rd == 1) || (rd == 5)
 

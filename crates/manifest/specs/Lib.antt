@@ -1,0 +1,4 @@
+pub mod Names
+pub mod Entries
+pub mod Keys
+pub mod Manifest
