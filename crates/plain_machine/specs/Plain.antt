@@ -1,5 +1,5 @@
 -- The plain run of a guest, as it is told.
-use Rattle.std.specs.Prelude.{◌≡◌, ℕ, List, Option, None}
+use Rattle.std.specs.Prelude.{◌≡◌, ℕ, List, None}
 use Rattle.probe_tools.specs.declared.tool.Tool.{Tool}
 use Rattle.probe_tools.specs.declared.event.Event.{Event}
 use Rattle.probe_tools.specs.Rows.{AreRows, Counts}
