@@ -1,12 +1,11 @@
 -- Counts that have some events more.
-use Rattle.std.proofs.Common.{◌≡◌, ℕ, ◌+◌, ◌-◌, ◌<◌, ◌≤◌, ◌^◌, ◌==◌, Bool, true, false, cond, List, [], ◌∷◌, ◌++◌, length, Option, Some, None, unwrap_or, nat_eq, refl, sym, ◌∙◌, ap, subst, arith}
-use Rattle.std.specs.Prelude.{option_map}
+use Rattle.std.proofs.Common.{◌≡◌, ℕ, ◌+◌, ◌-◌, ◌<◌, ◌≤◌, Bool, true, false, cond, List, [], ◌∷◌, ◌++◌, length, Option, Some, None, unwrap_or, nat_eq, refl, sym, ◌∙◌, ap, subst, arith}
 use Rattle.std.specs.Option.{option_to_list}
 use Rattle.std.specs.FinMap as fin
 use Rattle.rv_decode.specs.declared.ins.Ins.{Ins}
 use Rattle.probe_tools.specs.declared.event.Event.{Event}
 use Rattle.probe_tools.specs.declared.probe.ProbeKind.{ProbeKind}
-use Rattle.probe_tools.specs.Rows.{AreRows, Counts, count_at, key_of, with_more}
+use Rattle.probe_tools.specs.Rows.{Counts, count_at, key_of, with_more}
 use Rattle.plain_machine.specs.declared.cpu.Cpu.{Cpu}
 use Rattle.report.specs.Rows.{Rows}
 use Rattle.probe_tools.proofs.Counting.{got_more}

@@ -1,8 +1,6 @@
 -- What holds while the words of a block are done, in the words of the loop.
-use Rattle.std.proofs.Common.{◌≡◌, ℕ, ◌+◌, ◌-◌, ◌*◌, ◌<◌, ◌≤◌, ◌%◌, zero, suc, List, [], ◌∷◌, ◌++◌, length, slice_index, Option, Some, None, Ok, refl, sym, ◌∙◌, ap, subst, arith}
-use Rattle.std.specs.Prelude.{find}
+use Rattle.std.proofs.Common.{◌≡◌, ℕ, ◌+◌, ◌<◌, ◌≤◌, suc, [], ◌++◌, length, slice_index, Option, Some, None, refl, sym, ◌∙◌, ap, subst, arith}
 use Rattle.std.proofs.lemmas.Option.{same_Some}
-use Rattle.cc_base.specs.declared.span.Span.{Span}
 use Rattle.rv_decode.specs.declared.ins.Isa.{Isa}
 use Rattle.rv_decode.specs.Table.{instruction}
 use Rattle.probe_tools.specs.declared.tool.Tool.{Tool}
@@ -10,8 +8,8 @@ use Rattle.probe_tools.specs.declared.probe.ProbeKind.{ProbeKind}
 use Rattle.plain_machine.specs.declared.cpu.Cpu.{Cpu}
 use Rattle.plain_machine.specs.declared.cpu.Done.{Done}
 use Rattle.plain_machine.specs.declared.cpu.Done.TheVariants as done
-use Rattle.plain_machine.specs.Memory.{Memory, code_of, has_code, put}
-use Rattle.plain_machine.specs.Step.{Outcome, step, performed, effect_of}
+use Rattle.plain_machine.specs.Memory.{Memory, code_of}
+use Rattle.plain_machine.specs.Step.{Outcome, step, effect_of}
 use Rattle.plain_machine.specs.Io.{Io}
 use Rattle.plain_machine.specs.Machine.{State}
 use Rattle.plain_machine.specs.Events.{seen, events}
@@ -23,10 +21,10 @@ use Rattle.fragment.proofs.Testing.{fresh_parts}
 use Rattle.report.specs.Rows.{Rows}
 use Rattle.engine.specs.Words.{is_first, leaving, marks_before, state_at}
 use Rattle.engine.specs.Seeing.{LacksRow, WantsRow, seen_with, with_events}
-use Rattle.engine.specs.Standing.{CodeAfter, IsStored, SameCode, StandsIn, state}
+use Rattle.engine.specs.Standing.{CodeAfter, SameCode, StandsIn}
 use Rattle.engine.specs.declared.block.Left.{Left}
 use Rattle.engine.specs.declared.block.Left.TheVariants as lefts
-use Rattle.engine.proofs.Path.{events-more, marks-none}
+use Rattle.engine.proofs.Path.{events-more}
 use Rattle.engine.proofs.Reach.{Reaches, fetches}
 use Rattle.engine.proofs.Stored.{Leaves, leaves-so}
 use Rattle.engine.proofs.Counting.{events-counted}

@@ -1,10 +1,9 @@
 -- Which probes stand in a block, and what they see.
-use Rattle.std.proofs.Common.{◌≡◌, ℕ, ◌+◌, ◌<◌, ◌≤◌, ◌==◌, ◌||◌, zero, suc, Bool, true, false, if◌then◌else◌, List, [], ◌∷◌, ◌++◌, length, slice_index, get_or, length-append, Option, Some, None, Ok, refl, sym, ◌∙◌, ap, subst, arith, inl, inr}
+use Rattle.std.proofs.Common.{◌≡◌, ℕ, ◌+◌, ◌<◌, ◌≤◌, ◌==◌, zero, suc, Bool, true, false, if◌then◌else◌, List, [], ◌∷◌, ◌++◌, length, slice_index, get_or, length-append, Option, Some, None, Ok, refl, sym, ◌∙◌, ap, subst, arith, inl, inr}
 use Rattle.std.specs.Prelude.{option_map}
 use Rattle.std.specs.Option.{option_to_list}
-use Rattle.std.proofs.lemmas.Bool.{cases_Bool, cases_lt}
+use Rattle.std.proofs.lemmas.Bool.{cases_lt}
 use Rattle.std.proofs.lemmas.Bool.Decides.{nat_tests}
-use Rattle.std.proofs.lemmas.Option.{same_Some}
 use Rattle.cc_base.specs.Image.{Code}
 use Rattle.rv_decode.specs.declared.ins.Isa.{Isa}
 use Rattle.rv_decode.specs.declared.ins.Ins.{Ins}
@@ -12,7 +11,6 @@ use Rattle.rv_decode.specs.declared.ins.Ins.TheVariants as ins
 use Rattle.rv_decode.specs.Table.{instruction}
 use Rattle.probe_tools.specs.declared.tool.Tool.{Tool}
 use Rattle.probe_tools.specs.declared.tool.Tool.TheVariants as tools
-use Rattle.probe_tools.specs.declared.event.Event.{Event}
 use Rattle.probe_tools.specs.declared.event.Event.TheVariants as event
 use Rattle.probe_tools.specs.declared.probe.ProbeKind.{ProbeKind}
 use Rattle.probe_tools.specs.declared.probe.ProbeKind.TheVariants as kinds
@@ -30,7 +28,7 @@ use Rattle.plain_machine.specs.Events.{is_link}
 use Rattle.fragment.specs.Classes.{class_of}
 use Rattle.fragment.specs.Build.{IsBuilt}
 use Rattle.fragment.specs.Probing.{probe_at, probes_before, probes_of, placed}
-use Rattle.fragment.proofs.Places.{IsNext, next_probe, no_probe, before-more}
+use Rattle.fragment.proofs.Places.{next_probe, no_probe, before-more}
 use Rattle.engine.specs.Words.{is_first}
 use Rattle.engine.specs.Seeing.{probe_count, seen_with}
 

@@ -36,7 +36,7 @@ use Rattle.engine.specs.declared.block.Left.{Left}
 use Rattle.engine.specs.declared.block.Left.TheVariants as lefts
 use Rattle.engine.proofs.KeptCode.{holds-found, found_is, and_left}
 use Rattle.engine.proofs.Steps.{GoesOn, goes-on, Keeps, KeepsCode, keeps-code}
-use Rattle.engine.proofs.Path.{state-first, state-more, marks-none, marks-more, state-through, done-through, up-to}
+use Rattle.engine.proofs.Path.{state-first, marks-none, marks-more, state-through, done-through, up-to}
 
 -- the i words done so far end with one that ends a block
 abbrev pub closed : Isa → List ℕ → ℕ → Bool

@@ -1,5 +1,5 @@
 -- A word moves no region.
-use Rattle.std.proofs.Common.{◌≡◌, ℕ, ◌%◌, ◌==◌, Bool, true, false, if◌then◌else◌, List, [], ◌∷◌, length, Option, Some, Result, Ok, Err, refl, sym, ◌∙◌, ap, subst, inl, inr}
+use Rattle.std.proofs.Common.{◌≡◌, ℕ, ◌%◌, ◌==◌, Bool, true, false, if◌then◌else◌, List, [], ◌∷◌, length, Some, Result, Ok, Err, refl, sym, ◌∙◌, ap, subst, inl, inr}
 use Rattle.std.specs.Prelude.{find}
 use Rattle.std.proofs.lemmas.Bool.{cases_Bool}
 use Rattle.plain_machine.specs.declared.access.Access.{Access}
@@ -7,7 +7,7 @@ use Rattle.plain_machine.specs.declared.access.Size.{Size}
 use Rattle.plain_machine.specs.declared.cpu.Cpu.{Cpu}
 use Rattle.plain_machine.specs.declared.effect.Effect.{Effect}
 use Rattle.plain_machine.specs.declared.effect.Effect.TheVariants as effects
-use Rattle.plain_machine.specs.Region.{Area, holds, with_bytes}
+use Rattle.plain_machine.specs.Region.{holds}
 use Rattle.plain_machine.specs.Memory.{Memory, put, written, region_at, stored, low_bytes, size_of, starts_at}
 use Rattle.plain_machine.specs.Step.{Outcome, performed, store}
 use Rattle.guest_mem.proofs.MemoryLemmas.{made_is, with_bytes_keeps}

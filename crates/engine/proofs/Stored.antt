@@ -1,8 +1,6 @@
 -- What the last word of a block does to the code in memory.
-use Rattle.std.proofs.Common.{◌≡◌, ℕ, zero, suc, ◌%◌, ◌/◌, ◌<◌, ◌==◌, Bool, true, false, if◌then◌else◌, length, Result, Ok, Err, refl, sym, ◌∙◌, ap, arith, ⊎_elim, subst, inl, inr}
-use Rattle.std.specs.Prelude.{find}
+use Rattle.std.proofs.Common.{◌≡◌, ℕ, zero, suc, ◌%◌, ◌/◌, ◌<◌, ◌==◌, Bool, true, false, if◌then◌else◌, length, Result, Ok, Err, refl, sym, arith, ⊎_elim, subst}
 use Rattle.std.proofs.lemmas.Bool.{cases_Bool}
-use Rattle.cc_base.specs.declared.span.Span.{Span}
 use Rattle.plain_machine.specs.declared.access.Access.{Access}
 use Rattle.plain_machine.specs.declared.access.Size.{Size}
 use Rattle.plain_machine.specs.declared.access.Size.TheVariants.{Byte, Half, Word}
@@ -10,10 +8,10 @@ use Rattle.plain_machine.specs.declared.cpu.Cpu.{Cpu}
 use Rattle.plain_machine.specs.declared.cpu.Done.TheVariants as done
 use Rattle.plain_machine.specs.declared.effect.Effect.{Effect}
 use Rattle.plain_machine.specs.declared.effect.Effect.TheVariants as effects
-use Rattle.plain_machine.specs.Memory.{Memory, has_code, put, region_at, stored, touches_code, low_bytes, size_of}
+use Rattle.plain_machine.specs.Memory.{Memory, put, region_at, stored, touches_code, low_bytes, size_of}
 use Rattle.plain_machine.specs.Step.{Outcome, performed, store, next}
 use Rattle.guest_mem.proofs.MemoryLemmas.{made_is}
-use Rattle.engine.specs.Standing.{IsStored, SameCode}
+use Rattle.engine.specs.Standing.{IsStored}
 
 length-low_bytes : (n value : ℕ) → length (low_bytes n value) ≡ n
 length-low_bytes zero value = refl

@@ -1,5 +1,5 @@
 -- How a run goes on behind a call, by what the call came to.
-use Rattle.std.proofs.Common.{◌≡◌, ℕ, ◌%◌, ◌<◌, List, [], ◌∷◌, ◌++◌, length, Option, Some, None, Result, Ok, Err, Bool, true, false, refl, sym, ◌∙◌, ap, subst, arith}
+use Rattle.std.proofs.Common.{◌≡◌, ℕ, ◌%◌, List, [], ◌∷◌, ◌++◌, Some, Result, Ok, Err, true, false, refl, sym, ◌∙◌, ap, subst, arith}
 use Rattle.std.specs.Prelude.{slice_get, find}
 use Rattle.std.specs.Option.{option_to_list}
 use Rattle.std.proofs.lemmas.List.{append-nil}
@@ -9,14 +9,13 @@ use Rattle.plain_machine.specs.declared.ends.End.TheVariants as ends
 use Rattle.plain_machine.specs.declared.ends.Kind.TheVariants as kinds
 use Rattle.plain_machine.specs.declared.io.Asked.{Asked}
 use Rattle.plain_machine.specs.declared.io.Asked.TheVariants as asked
-use Rattle.plain_machine.specs.declared.io.Mapping.{Mapping}
 use Rattle.plain_machine.specs.Memory.{Memory, without_first}
 use Rattle.plain_machine.specs.Step.{next}
 use Rattle.plain_machine.specs.Io.{Io}
 use Rattle.plain_machine.specs.Calls.{Reply, called, is_mapped, is_module, minus}
 use Rattle.plain_machine.specs.Registers.{with_register}
 use Rattle.plain_machine.specs.Program.{Program, placed, unplaced}
-use Rattle.plain_machine.specs.Machine.{State, Setting, Action, Ends, Unmaps, Replaces, call, replied, after_unmap, after_replace, after_placing, with_result, map_file, unmap_from, unmap_module, program_in, Transition, To, transition_by}
+use Rattle.plain_machine.specs.Machine.{State, Setting, Action, Replaces, call, replied, after_unmap, after_replace, after_placing, with_result, map_file, unmap_from, unmap_module, program_in, To, transition_by}
 use Rattle.plain_machine.specs.Own.{taken_by, files_after}
 use Rattle.engine.specs.Standing.{state}
 use Rattle.guest_run.specs.Plain.{one_module}

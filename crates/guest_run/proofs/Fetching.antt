@@ -15,7 +15,7 @@ use Rattle.plain_machine.specs.Io.{Io}
 use Rattle.plain_machine.specs.Machine.{State, Unfetched, action, action_at}
 use Rattle.fragment.specs.Parts.{Parts}
 use Rattle.probe_tools.specs.declared.tool.Tool.{Tool}
-use Rattle.fragment.specs.Build.{CannotBuild, IsFresh, built, has_word}
+use Rattle.fragment.specs.Build.{CannotBuild, built, has_word}
 use Rattle.fragment.proofs.Values.{none-built, value-built}
 use Rattle.guest_mem.specs.Results.{Shows}
 use Rattle.fragment.specs.View.{shown}

@@ -1,6 +1,6 @@
 -- What is known of the modules that are mapped.
-use Rattle.std.proofs.Common.{◌≡◌, ℕ, ◌==◌, ◌||◌, ◌<◌, Bool, true, false, List, [], ◌∷◌, ◌++◌, length, get_or, ◌≤◌, Option, Some, None, refl, sym, ◌∙◌, ap, subst, arith, inl, inr}
-use Rattle.std.specs.Prelude.{find, option_map, slice_get, if◌then◌else◌}
+use Rattle.std.proofs.Common.{◌≡◌, ℕ, ◌<◌, Bool, true, false, List, [], ◌∷◌, ◌++◌, length, get_or, ◌≤◌, Some, None, refl, sym, ◌∙◌, ap, subst, inl, inr}
+use Rattle.std.specs.Prelude.{find, option_map, if◌then◌else◌}
 use Rattle.std.specs.List.{list_any}
 use Rattle.std.proofs.lemmas.Bool.{cases_Bool, eqb-true}
 use Rattle.std.proofs.lemmas.Option.{same_Some, slice_get_read, slice_get_within}
@@ -37,7 +37,7 @@ known-found files base k (m ∷ ms) all some = elim (cases_Bool (is_module k m))
       let rest : list_any (is_module k) ms ≡ true = rw elsewhere at some in
       let found = known-found files base k ms all.2 rest in
       record { mapping = found.mapping; is = rw elsewhere found.is; zero = found.zero; known = found.known }
-    )
+      )
 ]
 
 -- the file that it was mapped from

@@ -1,5 +1,5 @@
 -- Which map answers the states of a block take.
-use Rattle.std.proofs.Common.{◌≡◌, ℕ, zero, suc, ◌+◌, ◌-◌, ◌<◌, ◌≤◌, Bool, true, false, if◌then◌else◌, List, [], ◌∷◌, ◌++◌, length, slice_index, Ok, refl, sym, ◌∙◌, ap, subst, arith, inl, inr}
+use Rattle.std.proofs.Common.{◌≡◌, ℕ, zero, suc, ◌+◌, ◌-◌, ◌<◌, Bool, true, false, if◌then◌else◌, List, [], ◌∷◌, ◌++◌, length, slice_index, Ok, refl, sym, ◌∙◌, ap, subst, arith, inl, inr}
 use Rattle.std.specs.Prelude.{nat_lt}
 use Rattle.std.proofs.lemmas.Bool.{cases_lt}
 use Rattle.rv_decode.specs.Table.{instruction}
@@ -10,7 +10,7 @@ use Rattle.plain_machine.specs.Machine.{State, Setting, Action, Unfetched, Ends,
 use Rattle.plain_machine.specs.Own.{own_answers, taken_by, files_after}
 use Rattle.fragment.specs.Parts.{Parts}
 use Rattle.fragment.specs.declared.Exit.{Exit}
-use Rattle.engine.specs.Words.{DoesWords, word_of, outcome_in, state_at, state_after, done_at, is_first, marks_before, left_by}
+use Rattle.engine.specs.Words.{DoesWords, word_of, outcome_in, state_at, done_at, is_first, marks_before, left_by}
 use Rattle.engine.specs.declared.block.Left.{Left}
 use Rattle.engine.specs.declared.block.Left.TheVariants as lefts
 use Rattle.engine.proofs.Path.{marks-none, marks-more, state-more}
@@ -95,7 +95,7 @@ quiet-block block n s how next does other k lt = elim (cases_lt (k + 1) n) [
       let same : n - 1 ≡ k = omega arith in
       let d : NotAsked (done_at block.words s k) = subst (λ i. NotAsked (done_at block.words s i)) same (not-asked block.exits (nat_lt n (length block.words)) (done_at block.words s (n - 1)) how does.left other) in
       quiet-word (state_at block.words s k) (slice_index block.words k) (does.there k lt) d
-    )
+      )
 ]
 
 -- ---- the states of a block

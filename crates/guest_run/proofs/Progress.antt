@@ -1,7 +1,6 @@
 -- How far a run has come.
-use Rattle.std.proofs.Common.{◌≡◌, ℕ, zero, suc, Bool, List, [], ◌∷◌, ◌++◌, map, Option, Some, None, refl, sym, ◌∙◌, ap, subst, arith, append_assoc}
+use Rattle.std.proofs.Common.{◌≡◌, ℕ, zero, suc, Bool, List, [], ◌∷◌, ◌++◌, Option, Some, None, refl, sym, ◌∙◌, ap, subst, arith, append_assoc}
 use Rattle.std.specs.Prelude.{slice_get}
-use Rattle.std.specs.List.{flat_map}
 use Rattle.std.proofs.lemmas.List.{append-nil}
 use Rattle.std.proofs.lemmas.List.Concat.{flat_map-append}
 use Rattle.std.specs.FinMap as fin
@@ -20,7 +19,7 @@ use Rattle.plain_machine.specs.Cut.{Marked, cut, marked, with_marks, over}
 use Rattle.plain_machine.specs.Own.{own_answers}
 use Rattle.plain_machine.specs.Events.{events, seen}
 use Rattle.plain_machine.proofs.RunLaws.{run-zero, with-more}
-use Rattle.guest_run.specs.Moves.{Counted, Finishes, Moves, RunsFrom, states_of}
+use Rattle.guest_run.specs.Moves.{Finishes, Moves, RunsFrom, states_of}
 
 -- A run from s has come to now, with these counts for what was seen, these files of the modules, and these map answers.
 pub record Progress (w : Setting) (tool : Tool) (max fuel : ℕ) (s : State) (files : List ℕ) (left : ℕ) (now : State) (counts : Counts) (later before maps : List ℕ) : Type 0 where

@@ -12,8 +12,8 @@ use Rattle.plain_machine.specs.declared.ends.End.TheVariants as ends
 use Rattle.plain_machine.specs.declared.ends.Kind.{Kind}
 use Rattle.plain_machine.specs.declared.ends.Kind.TheVariants as kinds
 use Rattle.plain_machine.specs.Memory.{Memory}
-use Rattle.plain_machine.specs.Machine.{State, Setting, Unfetched, Final, action, call, transition_by}
-use Rattle.plain_machine.specs.Run.{run, run_behind, ended}
+use Rattle.plain_machine.specs.Machine.{State, Setting, Unfetched, action, call, transition_by}
+use Rattle.plain_machine.specs.Run.{run, run_behind}
 use Rattle.plain_machine.specs.Cut.{marked, with_marks, over}
 use Rattle.plain_machine.specs.Own.{own_answers, taken_by, files_after}
 use Rattle.plain_machine.specs.Events.{events}

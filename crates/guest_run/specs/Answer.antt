@@ -1,9 +1,9 @@
 -- How a run goes on behind a call.
-use Rattle.std.specs.Prelude.{◌≡◌, ℕ, List, [], ◌∷◌, ◌++◌, Option, Some, None, Result, Ok, Err, Bool, true, false}
+use Rattle.std.specs.Prelude.{◌≡◌, ℕ, List, ◌++◌, Option, Some, None, Result, Ok, Err, Bool, true, false}
 use Rattle.plain_machine.specs.declared.access.MemErr.{MemErr}
 use Rattle.plain_machine.specs.declared.ends.End.{End}
 use Rattle.plain_machine.specs.Memory.{Memory}
-use Rattle.plain_machine.specs.Machine.{State, Setting, Ends, call, Transition, To, transition_by, base_at, map_module}
+use Rattle.plain_machine.specs.Machine.{State, Setting, Ends, call, To, transition_by, base_at, map_module}
 use Rattle.plain_machine.specs.Own.{taken_by, files_after}
 
 -- Behind the call of the state now the run goes on in state next. Besides the map answers before, it took just those that

@@ -6,7 +6,7 @@ use Rattle.probe_tools.specs.Rows.{AreRows, Counts}
 use Rattle.plain_machine.specs.declared.ends.End.{End}
 use Rattle.plain_machine.specs.Machine.{State, Setting}
 use Rattle.plain_machine.specs.Run.{run}
-use Rattle.plain_machine.specs.Cut.{Marked, marked, with_marks, over}
+use Rattle.plain_machine.specs.Cut.{marked, with_marks, over}
 use Rattle.plain_machine.specs.Own.{own_answers}
 use Rattle.plain_machine.specs.Events.{events}
 

@@ -1,7 +1,7 @@
 -- One instruction, by what it does.
 use Rattle.std.specs.Prelude.{option_map}
 use Rattle.std.specs.Option.{option_to_list}
-use Rattle.std.proofs.Common.{◌≡◌, ℕ, zero, suc, ◌-◌, ◌+◌, ◌%◌, ◌==◌, ◌<◌, ◌≤◌, ◌||◌, Bool, true, false, if◌then◌else◌, List, [], ◌∷◌, ◌++◌, length, Option, Some, None, Result, Ok, Err, refl, sym, ◌∙◌, ap, subst, arith}
+use Rattle.std.proofs.Common.{◌≡◌, ℕ, ◌-◌, ◌+◌, ◌<◌, ◌≤◌, ◌||◌, Bool, true, false, if◌then◌else◌, List, [], ◌∷◌, ◌++◌, length, Option, Some, None, Ok, refl, sym, ◌∙◌, ap, subst, arith}
 use Rattle.std.proofs.lemmas.List.{append-nil}
 use Rattle.cc_base.specs.Span.{Range}
 use Rattle.rv_decode.specs.declared.ins.Ins.{Ins}
@@ -20,8 +20,8 @@ use Rattle.plain_machine.specs.declared.ends.Kind.{Kind}
 use Rattle.plain_machine.specs.declared.ends.Kind.TheVariants as kinds
 use Rattle.plain_machine.specs.Region.{Area}
 use Rattle.plain_machine.specs.Memory.{Memory, fetched}
-use Rattle.plain_machine.specs.Step.{Outcome, step, effect_of, access_of, target_of}
-use Rattle.plain_machine.specs.Machine.{State, Setting, Action, action, action_at, stepped, call, Unfetched, Ends, Goes, transition_by}
+use Rattle.plain_machine.specs.Step.{step, effect_of, access_of, target_of}
+use Rattle.plain_machine.specs.Machine.{State, Setting, action, action_at, stepped, call, Unfetched, Ends, Goes, transition_by}
 use Rattle.plain_machine.specs.Run.{Run, run, run_behind, ended}
 use Rattle.plain_machine.specs.Cut.{begins, closes, closes_with, ends_block, touched, room_after, place_of, marked_in, with_marks, over}
 use Rattle.plain_machine.specs.Own.{own_answers, taken_by, files_after}
@@ -31,9 +31,8 @@ use Rattle.report.specs.Rows.{Rows}
 use Rattle.engine.specs.Seeing.{counting, with_events}
 use Rattle.engine.proofs.Counting.{counting-bound, listed-few}
 use Rattle.engine.proofs.Reach.{IsSame, same-step}
-use Rattle.guest_run.specs.Answer.{Answers, GoesOn, EndsRun}
+use Rattle.guest_run.specs.Answer.{Answers, GoesOn}
 use Rattle.guest_run.specs.Moves.{Counted}
-use Rattle.guest_run.proofs.Owning.{IsQuiet, skips}
 use Rattle.guest_run.proofs.Stepping.{counted-by}
 use Rattle.plain_run.specs.declared.block.OpenBlock.{OpenBlock}
 use Rattle.plain_run.specs.Places.{LiesAt}

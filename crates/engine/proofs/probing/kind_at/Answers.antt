@@ -1,4 +1,4 @@
-use Rattle.std.proofs.Common.{◌≡◌, ◌≤◌, length, sym, ◌∙◌, arith}
+use Rattle.std.proofs.Common.{◌≤◌, length, sym, ◌∙◌, arith}
 use Rattle.probe_tools.specs.declared.probe.ProbeKind.TheVariants as kinds
 use Rattle.fragment.specs.declared.Probe.{Probe}
 use Rattle.engine.proofs.Probes.{kind-there, kind-elsewhere, kind-nowhere}

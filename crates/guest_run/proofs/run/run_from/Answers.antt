@@ -1,4 +1,4 @@
-use Rattle.std.proofs.Common.{◌≡◌, ◌∷◌, [], arith, sym, ap, ◌∙◌}
+use Rattle.std.proofs.Common.{◌∷◌, [], arith}
 use Rattle.plain_machine.specs.Machine.{State}
 use Rattle.guest_run.specs.Plain.{one_module}
 use Rattle.guest_run.specs.Moves.{Moves, Finishes}
@@ -19,7 +19,7 @@ returns-in-Some-clause-runs c =
     let now : State = state_of c.loop-process.process in
     let next : State = state_of c.step.new.process in
     let ends : Finishes w c.args.setup.now.tool c.args.setup.now.max c.loop-process.process.left now next c.loop-process.process.report.counts c.step.new.process.report.counts (c.loop-process.process.file ∷ [])
-        c.loop-process.maps.items c.step.new.maps.items c.in-Some.end =
+    c.loop-process.maps.items c.step.new.maps.items c.in-Some.end =
     let h = c.in_ok-reached.ensures.steps in rw c.in-Some.is at h in
     rw c.told.ensures
     (progress-finishes w c.args.setup.now.tool c.args.setup.now.max c.args.process.left (state_of c.args.process) (c.args.process.file ∷ []) c.loop-process.process.left now next
@@ -35,7 +35,7 @@ loop-process-preserved c =
     let now : State = state_of c.loop-process.process in
     let next : State = state_of c.step.new.process in
     let moves : Moves w c.args.setup.now.tool c.args.setup.now.max c.loop-process.process.left now c.step.new.process.left next c.loop-process.process.report.counts c.step.new.process.report.counts
-        (c.loop-process.process.file ∷ []) (c.step.new.process.file ∷ []) c.loop-process.maps.items c.step.new.maps.items =
+    (c.loop-process.process.file ∷ []) (c.step.new.process.file ∷ []) c.loop-process.maps.items c.step.new.maps.items =
     let h = c.in_ok-reached.ensures.steps in rw c.in_default.is at h in
     record {
       progress = progress-moves w c.args.setup.now.tool c.args.setup.now.max c.args.process.left (state_of c.args.process) (c.args.process.file ∷ []) c.loop-process.process.left now

@@ -1,4 +1,4 @@
-use Rattle.std.proofs.Common.{◌≡◌, ◌-◌, ◌∷◌, [], ℕ, length, sym, ◌∙◌, ap, subst, refl}
+use Rattle.std.proofs.Common.{◌-◌, ◌∷◌, [], ℕ, sym, ◌∙◌, ap, subst, refl}
 use Rattle.std.proofs.lemmas.Result.{IfOk-weaker}
 use Rattle.plain_machine.specs.declared.ends.End.TheVariants as ends
 use Rattle.plain_machine.specs.Machine.{State}
@@ -8,7 +8,7 @@ use Rattle.engine.specs.declared.block.Left.TheVariants as lefts
 use Rattle.engine.proofs.Loop.{no_io}
 use Rattle.guest_run.specs.Plain.{one_module}
 use Rattle.guest_run.specs.Moves.{Finishes, Moves, OneBlock}
-use Rattle.guest_run.specs.Ready.{IsReady, state_of}
+use Rattle.guest_run.specs.Ready.{state_of}
 use Rattle.guest_run.proofs.Stepping.{finishes-unfetched, moves-block, finishes-fault, steps-call, stands-own, both-ok}
 use Rattle.guest_run.proofs.step.step.Goals as goal
 

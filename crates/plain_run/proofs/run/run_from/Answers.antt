@@ -1,4 +1,4 @@
-use Rattle.std.proofs.Common.{◌≡◌, ◌∷◌, [], arith}
+use Rattle.std.proofs.Common.{◌∷◌, [], arith}
 use Rattle.plain_machine.specs.Machine.{State}
 use Rattle.guest_run.specs.Plain.{one_module}
 use Rattle.guest_run.specs.Ready.{state_of}
@@ -21,7 +21,7 @@ returns-in-Some-clause-runs c =
     let next : State = state_of c.step.new.process in
     let p = c.loop-process.invariant.progress in
     let ends : Finishes w c.args.setup.now.tool c.args.setup.now.max c.loop-process.block p.region now next c.loop-process.process.report.counts c.step.new.process.report.counts (c.loop-process.process.file ∷ [])
-        c.loop-process.maps.items c.step.new.maps.items c.in-Some.end =
+    c.loop-process.maps.items c.step.new.maps.items c.in-Some.end =
     let h = c.in_ok-reached.ensures.steps p.region p.lies in rw c.in-Some.is at h in
     rw c.told.ensures
     (progress-finishes w c.args.setup.now.tool c.args.setup.now.max c.args.process.left (state_of c.args.process) (c.args.process.file ∷ []) c.loop-process.process.left c.loop-process.block now next
@@ -38,7 +38,7 @@ loop-process-preserved c =
     let next : State = state_of c.step.new.process in
     let p = c.loop-process.invariant.progress in
     let moves : Moves w c.args.setup.now.tool c.args.setup.now.max c.loop-process.block p.region now c.step.new.block next c.loop-process.process.report.counts c.step.new.process.report.counts
-        (c.loop-process.process.file ∷ []) (c.step.new.process.file ∷ []) c.loop-process.maps.items c.step.new.maps.items =
+    (c.loop-process.process.file ∷ []) (c.step.new.process.file ∷ []) c.loop-process.maps.items c.step.new.maps.items =
     let h = c.in_ok-reached.ensures.steps p.region p.lies in rw c.in_default.is at h in
     record {
       progress = progress-moves w c.args.setup.now.tool c.args.setup.now.max c.args.process.left (state_of c.args.process) (c.args.process.file ∷ []) c.loop-process.process.left c.step.new.process.left

@@ -1,4 +1,4 @@
-use Rattle.std.proofs.Common.{◌≡◌, ◌∷◌, []}
+use Rattle.std.proofs.Common.{◌∷◌, []}
 use Rattle.guest_run.specs.Plain.{one_module}
 use Rattle.guest_run.specs.Ready.{IsReady, state_of}
 use Rattle.plain_run.proofs.Progress.{Progress}

@@ -1,4 +1,4 @@
-use Rattle.std.proofs.Common.{◌≡◌, ◌∷◌, [], ◌^◌, ◌-◌, Some, refl, sym, ◌∙◌, ap, arith}
+use Rattle.std.proofs.Common.{◌∷◌, [], ◌^◌, Some, refl, ◌∙◌, ap}
 use Rattle.std.proofs.lemmas.Result.{IfOk-weaker}
 use Rattle.plain_machine.specs.declared.cpu.Done.TheVariants as done
 use Rattle.plain_machine.specs.Machine.{State}
@@ -114,10 +114,10 @@ returns-in-Asked-clause-steps c = λ place lies.
 pub returns-in-Asked-clause-ready : goal.returns-in-Asked-clause-ready
 returns-in-Asked-clause-ready c = IfOk-weaker c.answer.result _ _
     (λ end both is. record {
-  known = both.0;
-  file = c.answer.ensures.file;
-  aligned = both.1 is;
-  tool = ap (λ r. r.tool) c.in_ok-count.ensures ∙ c.requires.ready.tool;
-  small = small-after c.args.process.now.report.tool c.args.process.now.cpu c.is_left_at-begins.result c.decode-ins.result c.args.process.now.report c.count.new.report c.args.process.now.left (2 ^ 64) c.in_ok-count.ensures c.requires.fuel c.requires.ready.small;
-})
+      known = both.0;
+      file = c.answer.ensures.file;
+      aligned = both.1 is;
+      tool = ap (λ r. r.tool) c.in_ok-count.ensures ∙ c.requires.ready.tool;
+      small = small-after c.args.process.now.report.tool c.args.process.now.cpu c.is_left_at-begins.result c.decode-ins.result c.args.process.now.report c.count.new.report c.args.process.now.left (2 ^ 64) c.in_ok-count.ensures c.requires.fuel c.requires.ready.small;
+    })
     (both-ok c.answer.result _ _ c.answer.ensures.known c.answer.ensures.aligned)
