@@ -1,4 +1,4 @@
-pub mod HexText
-pub mod Written
-pub mod Taken
-pub mod Telling
+mod Steps
+pub mod Oracles
+pub mod Told
+pub mod Sources

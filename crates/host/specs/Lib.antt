@@ -1,4 +1,4 @@
-pub mod Text
+pub mod Outcome
 pub mod Answer
 pub mod Seen
-pub mod Elf
+pub mod Reading

@@ -1,14 +1,15 @@
-//! The top call: one guest, read, run and printed.
+//! The top call: a manifest, its files and its input are read, and its guest is run and printed.
 //!
-//! It stands on `guest_run`, `elf_map` and `outside`. The program above uses the clauses of `host`: what was written is
-//! the text of the guest's plain run, and each other answer has its cause.
+//! It stands on `manifest`, `elf_map`, `guest_run`, `host_text` and `outside`. The program above uses the clauses of
+//! [`host`]: what was written is the text of the guest's plain run, and each other answer has its cause, which is the
+//! first failure in the order of the work.
 #![tactic(auto)]
 
 mod ended;
-mod print;
-mod text;
+mod prepare;
+mod reading;
 mod top;
 
-pub use ended::{Cause, Ended, FileNumbers, GuestEnd};
-pub use text::text_of;
+pub use ended::{Ended, FileNumbers, GuestEnd};
+pub use host_text::{Cause, status_of};
 pub use top::host;

@@ -1,5 +1,6 @@
 ghost use Rattle.std.specs.Prelude.{◌≡◌, ◌<◌, ◌≤◌, length, drop, nat_le, IfSome};
 ghost use Rattle.std.specs.List.{list_all};
+ghost use Rattle.std.specs.Str.{is_utf8};
 ghost use Rattle.manifest.specs.Names.{is_name, is_name_byte, is_file_name, are_distinct, place_of, is_among};
 ghost use Rattle.manifest.specs.Manifest.{module_names, guest_names};
 
@@ -34,7 +35,7 @@ fn is_name_byte(b: u8) -> bool
 pub fn is_file_name(text: &[u8]) -> bool
     ensures { result ≡ is_file_name text.now }
 {
-    1 <= text.len() && text.len() <= 255 && are_printed(text)
+    1 <= text.len() && text.len() <= 255 && are_printed(text) && is_text(text)
 }
 
 fn are_printed(text: &[u8]) -> bool
@@ -46,6 +47,13 @@ fn are_printed(text: &[u8]) -> bool
         }
     }
     true
+}
+
+// Whether it is UTF-8. What TOML gives always is, and the type of a manifest says it of each name of a file.
+fn is_text(bytes: &[u8]) -> bool
+    ensures { result ≡ is_utf8 bytes.now }
+{
+    std::str::from_utf8(bytes).is_ok()
 }
 
 /// Whether each of these is a name of a file.

@@ -10,3 +10,4 @@ mod tests;
 mod text;
 
 pub use report::{Report, key_of};
+pub use text::push_hex;

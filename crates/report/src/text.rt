@@ -60,7 +60,8 @@ fn kind_text(store: bool) -> &'static str
     if store { " store" } else { " load" }
 }
 
-fn push_hex(text: &mut String, n: u32) -> Result<(), AllocError>
+/// Appends an address: eight upper-case hexadecimal digits.
+pub fn push_hex(text: &mut String, n: u32) -> Result<(), AllocError>
     ensures { OnOk result (string_bytes text.new ≡ string_bytes text.old ++ hex n) }
 {
     write!(text, "{n:08X}")

@@ -1,0 +1,145 @@
+-- What a call of the host comes to, by what its reads answer.
+use Rattle.std.specs.Prelude.{◌≡◌, ◌≢◌, ℕ, zero, suc, ◌<◌, ◌≤◌, nat_le, Bool, List, [], ◌∷◌, length, codes, if◌then◌else◌, unwrap_or, Option, Some, None, Result, Ok, Err, String, string_bytes}
+use Rattle.std.specs.declared.alloc.Global.{Global}
+use Rattle.std.specs.Option.{option_to_list}
+use Rattle.std.specs.Str.{bytes_eq}
+use Rattle.outside.specs.Faults.{Rose}
+use Rattle.outside.specs.Told.{Told, Untold, Absent, Holds, ForContent}
+use Rattle.plain_machine.specs.Program.{Program}
+use Rattle.manifest.specs.declared.error.ManifestErr.{ManifestErr}
+use Rattle.manifest.specs.Entries.{Listing, ModuleEntry, GuestEntry}
+use Rattle.manifest.specs.Manifest.{manifest_of}
+use Rattle.elf_map.specs.declared.error.ElfErr.{ElfErr}
+use Rattle.elf_map.specs.Elf.{elf_of}
+use Rattle.host_text.specs.declared.cause.Cause.{Cause}
+use Rattle.host_text.specs.declared.cause.Cause.TheVariants as causes
+
+-- ---- reads
+
+-- what a read is for: the manifest, the file of this number, or the input of the guest of this number
+pub data Place : Type 0 where
+  Manifest : Place
+  File : ℕ → Place
+  Input : ℕ → Place
+
+-- the most bytes that are taken
+abbrev pub limit_of : Place → ℕ
+limit_of Manifest = 1048576
+limit_of (File i) = 4194304
+limit_of (Input i) = 1048576
+
+-- the answer to a read of a name: its bytes, or why there are none
+abbrev pub Answer : Type 0
+Answer = Result (List ℕ) Cause
+
+-- What the files tell: the contents, and how often reads of each name failed before the call and after it.
+pub record Source : Type 0 where
+  pub content : List ℕ → Told
+  pub before : List ℕ → ℕ
+  pub after : List ℕ → ℕ
+
+-- an answer that agrees with what the files tell: the bytes are the content; a name is unread only where reads of it
+-- failed in this call; it is long where the content is. Memory may run out
+abbrev pub Agrees : Source → ℕ → List ℕ → Answer → Type 0
+Agrees s limit name (Ok bytes) = ForContent (s.content name) (λ content. bytes ≡ content) × (length bytes ≤ limit)
+Agrees s limit name (Err (causes.Unread n)) = (n ≡ name) × Rose (s.before name) (s.after name)
+Agrees s limit name (Err (causes.Long n)) = (n ≡ name) × ForContent (s.content name) (λ content. limit < length content)
+Agrees s limit name (Err causes.Memory) = Unit {0}
+Agrees s limit name (Err causes.Done) = ⊥
+Agrees s limit name (Err causes.GuestEnded) = ⊥
+Agrees s limit name (Err causes.Words) = ⊥
+Agrees s limit name (Err (causes.Manifest e)) = ⊥
+Agrees s limit name (Err causes.Unbuilt) = ⊥
+Agrees s limit name (Err (causes.Elf n e)) = ⊥
+Agrees s limit name (Err causes.Sink) = ⊥
+
+-- the answers to all reads
+abbrev pub Answers : Type 0
+Answers = Place → List ℕ → Answer
+
+-- they all agree with what the files tell
+abbrev pub AllAgree : Source → Answers → Type 0
+AllAgree s answers = (place : Place) (name : List ℕ) → Agrees s (limit_of place) name (answers place name)
+
+-- ---- the work
+
+infixl 10 ◌>>=◌
+abbrev pub ◌>>=◌ : {A B : Type 0} → Result A Cause → (A → Result B Cause) → Result B Cause
+(Ok x) >>= f = f x
+(Err cause) >>= f = Err cause
+
+-- the file that the words name: they are `run` and its name
+abbrev pub file_named : List (String Global) → Option (List ℕ)
+file_named [] = None
+file_named (verb ∷ []) = None
+file_named (verb ∷ file ∷ []) = if bytes_eq (string_bytes verb) (codes "run") then Some (string_bytes file) else None
+file_named (verb ∷ file ∷ more ∷ words) = None
+
+abbrev pub named : Option (List ℕ) → Answer
+named None = Err causes.Words
+named (Some name) = Ok name
+
+abbrev pub listed : Result Listing ManifestErr → Result Listing Cause
+listed (Ok listing) = Ok listing
+listed (Err e) = Err (causes.Manifest e)
+
+-- the one module, and the one guest
+abbrev pub alone : List ModuleEntry → List GuestEntry → Result (ModuleEntry × GuestEntry) Cause
+alone (m ∷ []) (g ∷ []) = Ok (m, g)
+alone _ _ = Err causes.Unbuilt
+
+-- what is read of these names, in order
+unfoldable pub each : (ℕ → List ℕ → Answer) → List (List ℕ) → Result (List (List ℕ)) Cause
+each answers [] = Ok []
+each answers (name ∷ names) = do
+  bytes ← answers 0 name
+  rest ← each (λ i. answers (suc i)) names
+  Ok (bytes ∷ rest)
+
+abbrev pub taken : List ℕ → Result Program ElfErr → Result Program Cause
+taken name (Ok program) = Ok program
+taken name (Err e) = Err (causes.Elf name e)
+
+-- the programs of these files, by their names and bytes
+unfoldable pub programs_of : List (List ℕ) → List (List ℕ) → Result (List Program) Cause
+programs_of [] files = Ok []
+programs_of (name ∷ names) [] = Ok []
+programs_of (name ∷ names) (bytes ∷ files) = do
+  program ← taken name (elf_of bytes)
+  rest ← programs_of names files
+  Ok (program ∷ rest)
+
+-- What is to be run: a module and a guest, the programs of all files, and what was read of the guest's input.
+pub record Plan : Type 0 where
+  pub one : ModuleEntry
+  pub guest : GuestEntry
+  pub programs : List Program
+  pub inputs : List (List ℕ)
+
+-- The work in its order. The first failure is what it comes to.
+abbrev pub outcome : List (String Global) → Answers → Result Plan Cause
+outcome words answers = do
+  name ← named (file_named words)
+  text ← answers Manifest name
+  listing ← listed (manifest_of text)
+  one ← alone listing.modules listing.guests
+  files ← each (λ i. answers (File i)) listing.files
+  inputs ← each (λ i. answers (Input i)) (option_to_list one.1.input)
+  programs ← programs_of listing.files files
+  Ok (record { one = one.0; guest = one.1; programs = programs; inputs = inputs })
+
+-- ---- files that tell all
+
+abbrev pub answer_of : ℕ → List ℕ → Told → Answer
+answer_of limit name Untold = Err causes.Memory
+answer_of limit name Absent = Err (causes.Unread name)
+answer_of limit name (Holds bytes) = if nat_le (length bytes) limit then Ok bytes else Err (causes.Long name)
+
+-- the answers where the files tell all contents and no read of a content fails
+abbrev pub answers_of : (List ℕ → Told) → Answers
+answers_of content place name = answer_of (limit_of place) name (content name)
+
+-- All contents are told, and just absent names were not read.
+pub record IsSteady (s : Source) : Type 0 where
+  pub told : (name : List ℕ) → s.content name ≢ Untold
+  pub read : (name : List ℕ) → Rose (s.before name) (s.after name) → s.content name ≡ Absent

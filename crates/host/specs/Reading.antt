@@ -1,0 +1,23 @@
+-- What the parts of the work answer.
+use Rattle.std.specs.Prelude.{◌≡◌, ◌≢◌, ◌⊎◌, ℕ, List, [], ◌∷◌, Result, Ok, Err}
+use Rattle.host_text.specs.declared.cause.Cause.{Cause}
+use Rattle.host_text.specs.declared.cause.Cause.TheVariants as causes
+use Rattle.host.specs.Outcome.{Source, Agrees}
+
+-- these are the bytes of these names
+abbrev pub AreRead : Source → ℕ → List (List ℕ) → List (List ℕ) → Type 0
+AreRead s limit [] [] = Unit {0}
+AreRead s limit [] (bytes ∷ rest) = ⊥
+AreRead s limit (name ∷ names) [] = ⊥
+AreRead s limit (name ∷ names) (bytes ∷ rest) = Agrees s limit name (Ok bytes) × AreRead s limit names rest
+
+-- the first of these names that was not read is so for this reason
+abbrev pub Fails : Source → ℕ → List (List ℕ) → Cause → Type 0
+Fails s limit [] cause = ⊥
+Fails s limit (name ∷ names) cause =
+    Agrees s limit name (Err cause) ⊎ ((bytes : List ℕ) × Agrees s limit name (Ok bytes) × Fails s limit names cause)
+
+-- an answer that is what it has to be. Memory may run out
+abbrev pub Gives : {X Y : Type 0} → (X → Y) → Result Y Cause → Result X Cause → Type 0
+Gives seen meant (Ok x) = meant ≡ Ok (seen x)
+Gives seen meant (Err cause) = cause ≢ causes.Memory → meant ≡ Err cause

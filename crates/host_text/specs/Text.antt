@@ -1,0 +1,43 @@
+-- The printed text of a guest.
+use Rattle.std.specs.Prelude.{ℕ, List, ◌++◌, length, codes, decimal}
+use Rattle.std.specs.FinMap as fin
+use Rattle.probe_tools.specs.declared.tool.Tool.{Tool}
+use Rattle.probe_tools.specs.declared.tool.Tool.TheVariants as tools
+use Rattle.plain_machine.specs.declared.ends.Kind.{Kind}
+use Rattle.plain_machine.specs.declared.ends.Kind.TheVariants as kinds
+use Rattle.plain_machine.specs.declared.ends.End.{End}
+use Rattle.plain_machine.specs.declared.ends.End.TheVariants as ends
+use Rattle.report.specs.Rows.{Rows}
+use Rattle.report.specs.Text.{hex, report_text}
+
+abbrev pub kind_text : Kind → List ℕ
+kind_text kinds.Fetch = codes "fetch"
+kind_text kinds.Misaligned = codes "misaligned"
+kind_text kinds.Load = codes "load"
+kind_text kinds.Store = codes "store"
+kind_text kinds.Illegal = codes "illegal"
+kind_text kinds.Break = codes "break"
+kind_text kinds.Output = codes "output"
+
+unfoldable pub end_text : End → List ℕ
+end_text (ends.Exit status) = codes "exit " ++ decimal status
+end_text (ends.Fault kind pc) = codes "fault " ++ kind_text kind ++ codes " " ++ hex pc
+end_text ends.Fuel = codes "fuel"
+end_text ends.Unplaced = codes "unplaced"
+
+abbrev pub tool_text : Tool → List ℕ
+tool_text tools.Blocks = codes "blocks"
+tool_text tools.Calls = codes "calls"
+tool_text tools.Memory = codes "memory"
+
+-- the end, and how many bytes were written
+unfoldable pub end_line : End → ℕ → List ℕ
+end_line end count = codes " " ++ end_text end ++ codes "\noutput " ++ decimal count ++ codes "\n"
+
+-- the end of the output's line, the tool, and how many rows there are
+unfoldable pub report_line : Rows → List ℕ
+report_line r = codes "\nreport " ++ tool_text r.tool ++ codes " " ++ decimal (fin.len r.counts) ++ codes "\n"
+
+-- a guest by its name: its end, its output, and the rows of its report
+abbrev pub text_of : List ℕ → End → List ℕ → Rows → List ℕ
+text_of name end output r = codes "guest " ++ name ++ end_line end (length output) ++ output ++ report_line r ++ report_text r

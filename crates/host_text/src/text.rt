@@ -1,0 +1,93 @@
+// The printed text of a guest.
+ghost use Rattle.std.specs.Prelude.{◌≡◌, ◌++◌, length, string_bytes, IfOk, OnOk};
+ghost use Rattle.std.specs.FinMap as fin;
+ghost use Rattle.host_text.specs.Text.{end_text, kind_text, tool_text, end_line, report_line, text_of};
+
+use cc_base::Name;
+use guest_run::Ran;
+use plain_machine::{End, Kind};
+use probe_tools::Tool;
+use report::{Report, push_hex};
+use std::alloc::{AllocError, Global};
+
+/// What a run prints of a guest: how it ended, its output, and its report.
+pub fn text_of(alloc: Global, name: &Name, ran: &Ran) -> Result<Vec<u8>, AllocError>
+    ensures { IfOk result (λ text. text.items ≡ text_of name.now ran.now.end ran.now.output ran.now.report) }
+{
+    let output = ran.output.items();
+    let end = end_line(alloc, ran.end, output.len())?;
+    let report = report_line(alloc, &ran.report)?;
+    let mut text = Vec::from_slice(alloc, b"guest ")?;
+    text.extend_from_slice(name.items())?;
+    text.extend_from_slice(end.as_bytes())?;
+    text.extend_from_slice(output)?;
+    text.extend_from_slice(report.as_bytes())?;
+    ran.report.write_text(alloc, &mut text)?;
+    Ok(text)
+}
+
+// What stands behind a guest's name: its end, and how many bytes it wrote.
+#[tactic(auto, unfolding(crate::specs::Text::end_line))]
+fn end_line(alloc: Global, end: End, count: usize) -> Result<String, AllocError>
+    ensures { IfOk result (λ text. string_bytes text ≡ end_line end count) }
+{
+    let mut text = String::new(alloc);
+    text.push_str(" ")?;
+    push_end(&mut text, end)?;
+    writeln!(text, "\noutput {count}")?;
+    Ok(text)
+}
+
+#[tactic(auto, unfolding(crate::specs::Text::end_text))]
+fn push_end(text: &mut String, end: End) -> Result<(), AllocError>
+    ensures { OnOk result (string_bytes text.new ≡ string_bytes text.old ++ end_text end) }
+{
+    match end {
+        End::Exit(status) => write!(text, "exit {status}"),
+        End::Fault { kind, pc } => {
+            text.push_str("fault ")?;
+            text.push_str(kind_text(kind))?;
+            text.push_str(" ")?;
+            push_hex(text, pc)
+        }
+        End::Fuel => text.push_str("fuel"),
+        End::Unplaced => text.push_str("unplaced"),
+    }
+}
+
+fn kind_text(kind: Kind) -> &'static str
+    ensures { result.now ≡ kind_text kind }
+{
+    match kind {
+        Kind::Fetch => "fetch",
+        Kind::Misaligned => "misaligned",
+        Kind::Load => "load",
+        Kind::Store => "store",
+        Kind::Illegal => "illegal",
+        Kind::Break => "break",
+        Kind::Output => "output",
+    }
+}
+
+// What stands between the output and the rows: its tool, and how many rows there are.
+#[tactic(auto, unfolding(crate::specs::Text::report_line))]
+fn report_line(alloc: Global, report: &Report) -> Result<String, AllocError>
+    ensures { IfOk result (λ text. string_bytes text ≡ report_line report.now) }
+{
+    let mut text = String::new(alloc);
+    text.push_str("\nreport ")?;
+    text.push_str(tool_text(report.tool()))?;
+    let count = report.row_count();
+    writeln!(text, " {count}")?;
+    Ok(text)
+}
+
+fn tool_text(tool: Tool) -> &'static str
+    ensures { result.now ≡ tool_text tool }
+{
+    match tool {
+        Tool::Blocks => "blocks",
+        Tool::Calls => "calls",
+        Tool::Memory => "memory",
+    }
+}
