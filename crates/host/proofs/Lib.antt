@@ -2,3 +2,4 @@ mod Steps
 pub mod Oracles
 pub mod Told
 pub mod Sources
+pub mod Programs

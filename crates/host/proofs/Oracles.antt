@@ -19,7 +19,7 @@ same_bytes : (a : List ℕ) → bytes_eq a a ≡ true
 same_bytes a = (bytes_eq-Decides a a).1 refl
 
 -- the answer to one name. Memory runs out at all others
-pub answer_at : List ℕ → Answer → List ℕ → Answer
+abbrev pub answer_at : List ℕ → Answer → List ℕ → Answer
 answer_at name answer asked = if bytes_eq asked name then answer else Err causes.Memory
 
 pub at_itself : (name : List ℕ) (answer : Answer) → answer_at name answer name ≡ answer
@@ -34,14 +34,14 @@ pub agrees_at : (s : Source) (limit : ℕ) (name : List ℕ) (answer : Answer) �
 agrees_at s limit name answer agrees asked = agrees_if s limit name asked answer (bytes_eq asked name) (are_same asked name) agrees
 
 -- memory runs out at each name
-pub nothing : ℕ → List ℕ → Answer
+abbrev pub nothing : ℕ → List ℕ → Answer
 nothing i asked = Err causes.Memory
 
 pub agrees_nothing : (s : Source) (limit : ℕ) (i : ℕ) (asked : List ℕ) → Agrees s limit asked (nothing i asked)
 agrees_nothing s limit i asked = tt
 
 -- one answer more in front of others
-behind : List ℕ → Answer → (ℕ → List ℕ → Answer) → ℕ → List ℕ → Answer
+abbrev behind : List ℕ → Answer → (ℕ → List ℕ → Answer) → ℕ → List ℕ → Answer
 behind name answer rest zero asked = answer_at name answer asked
 behind name answer rest (suc i) asked = rest i asked
 
@@ -86,7 +86,7 @@ known_failure s limit (name ∷ names) cause (inr (bytes, agrees, fails)) =
     }
 
 -- the answers to all reads, by what they are for
-pub answers_by : (List ℕ → Answer) → (ℕ → List ℕ → Answer) → (ℕ → List ℕ → Answer) → Answers
+abbrev pub answers_by : (List ℕ → Answer) → (ℕ → List ℕ → Answer) → (ℕ → List ℕ → Answer) → Answers
 answers_by text files inputs Manifest name = text name
 answers_by text files inputs (File i) name = files i name
 answers_by text files inputs (Input i) name = inputs i name

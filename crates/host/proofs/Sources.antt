@@ -1,12 +1,13 @@
 -- What files tell, as reads go on.
 use Rattle.std.proofs.Common.{◌≡◌, ℕ, zero, suc, ◌+◌, ◌<◌, ◌≤◌, nat_le, true, false, List, [], ◌∷◌, ◌++◌, length, take, get_or, Ok, Err, refl, sym, ◌∙◌, ap, subst, inl, inr, ◌⊎◌, ⊎_elim, arith}
-use Rattle.std.proofs.lemmas.Bool.{cases_Bool}
+use Rattle.std.proofs.lemmas.Bool.Decides.{leb_tells}
 use Rattle.outside.specs.Faults.{Rose}
 use Rattle.outside.specs.Told.{Told, ForContent}
 use Rattle.host_text.specs.declared.cause.Cause.{Cause}
 use Rattle.host_text.specs.declared.cause.Cause.TheVariants as causes
 use Rattle.host.specs.Outcome.{Answer, Source, Agrees}
 use Rattle.host.specs.Reading.{AreRead, Fails}
+use Rattle.host.specs.Seen.{source_of}
 
 -- A part of a call: the contents are those of the whole, and its counts are between those of the whole.
 pub record IsPart (whole part : Source) : Type 0 where
@@ -15,12 +16,40 @@ pub record IsPart (whole part : Source) : Type 0 where
   pub within : (name : List ℕ) → part.before name ≤ part.after name
   pub after : (name : List ℕ) → part.after name ≤ whole.after name
 
+-- ---- parts that follow one another
+
+pub kept_on : {F : Type 0} (content : F → List ℕ → Told) (a b c : F) → ((n : List ℕ) → content b n ≡ content a n) → ((n : List ℕ) → content c n ≡ content b n) →
+    (n : List ℕ) → content c n ≡ content a n
+kept_on content a b c first second n = second n ∙ first n
+
+pub less_on : {F : Type 0} (faults : F → List ℕ → ℕ) (a b c : F) → ((n : List ℕ) → faults a n ≤ faults b n) → ((n : List ℕ) → faults b n ≤ faults c n) →
+    (n : List ℕ) → faults a n ≤ faults c n
+less_on faults a b c first second n = let one = first n in let two = second n in omega (arith, one, two)
+
+pub first_part : {F : Type 0} (content : F → List ℕ → Told) (faults : F → List ℕ → ℕ) (a b c : F) → ((n : List ℕ) → faults a n ≤ faults b n) →
+    ((n : List ℕ) → faults b n ≤ faults c n) → IsPart (source_of content faults a c) (source_of content faults a b)
+first_part content faults a b c first second = record {
+  content = λ n. refl;
+  before = λ n. omega arith;
+  within = first;
+  after = second;
+}
+
+pub last_part : {F : Type 0} (content : F → List ℕ → Told) (faults : F → List ℕ → ℕ) (a b c : F) → ((n : List ℕ) → content b n ≡ content a n) →
+    ((n : List ℕ) → faults a n ≤ faults b n) → ((n : List ℕ) → faults b n ≤ faults c n) → IsPart (source_of content faults a c) (source_of content faults b c)
+last_part content faults a b c kept first second = record {
+  content = kept;
+  before = first;
+  within = second;
+  after = λ n. omega arith;
+}
+
+-- ---- what parts tell
+
 -- a count that is the greatest, or has passed it
 most_or_more : (a d : ℕ) → a ≤ d → 18446744073709551615 ≤ d → a ≤ 18446744073709551615 → Rose a d
 most_or_more a d one two three =
-    ⊎_elim (λ (low : nat_le d 18446744073709551615 ≡ true). inr (omega (arith, two, low)))
-    (λ (high : nat_le d 18446744073709551615 ≡ false). inl (omega (arith, one, three, high)))
-    (cases_Bool (nat_le d 18446744073709551615))
+    ⊎_elim (λ low. inr (omega (arith, two, low.1))) (λ high. inl (omega (arith, three, high.1))) (leb_tells d 18446744073709551615)
 
 -- a count that rose in a part of a call rose in it
 rose_too : (a b c d : ℕ) → a ≤ b → b ≤ c → c ≤ d → Rose b c → Rose a d

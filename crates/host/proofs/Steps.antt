@@ -10,7 +10,7 @@ goes_on r f x is = ap (λ q. q >>= f) is
 pub stops : {A B : Type 0} (r : Result A Cause) (f : A → Result B Cause) (cause : Cause) → r ≡ Err cause → (r >>= f) ≡ Err cause
 stops r f cause is = ap (λ q. q >>= f) is
 
-cause_in : {A : Type 0} → Cause → Result A Cause → Cause
+abbrev cause_in : {A : Type 0} → Cause → Result A Cause → Cause
 cause_in other (Ok x) = other
 cause_in other (Err e) = e
 

@@ -3,6 +3,7 @@ use Rattle.std.proofs.Common.{◌≡◌, ◌≢◌, ℕ, zero, suc, ◌<◌, ◌
 use Rattle.std.specs.Prelude.{String}
 use Rattle.std.specs.declared.alloc.Global.{Global}
 use Rattle.std.specs.Option.{option_to_list}
+use Rattle.std.proofs.lemmas.Bool.Decides.{leb_tells}
 use Rattle.outside.specs.Faults.{Rose}
 use Rattle.outside.specs.Told.{Told, Untold, Absent, Holds, ForContent}
 use Rattle.plain_machine.specs.Program.{Program}
@@ -20,13 +21,13 @@ use Rattle.host.proofs.Steps.{Same, same_steps, fails_in}
 
 short : (limit : ℕ) (name bytes : List ℕ) → length bytes ≤ limit → Ok bytes ≡ answer_of limit name (Holds bytes)
 short limit name bytes fits =
-    let test : nat_le (length bytes) limit ≡ true = omega (arith, fits) in
-    sym (ap (λ b. if b then Ok bytes else Err (causes.Long name)) test)
+    ⊎_elim (λ yes. sym (ap (λ b. if b then Ok bytes else Err (causes.Long name)) yes.0)) (λ no. absurd (omega (arith, fits, no.1)))
+    (leb_tells (length bytes) limit)
 
 long : (limit : ℕ) (name bytes : List ℕ) → limit < length bytes → Err (causes.Long name) ≡ answer_of limit name (Holds bytes)
 long limit name bytes over =
-    let test : nat_le (length bytes) limit ≡ false = omega (arith, over) in
-    sym (ap (λ b. if b then Ok bytes else Err (causes.Long name)) test)
+    ⊎_elim (λ yes. absurd (omega (arith, over, yes.1))) (λ no. sym (ap (λ b. if b then Ok bytes else Err (causes.Long name)) no.0))
+    (leb_tells (length bytes) limit)
 
 same_bytes : (told : Told) (limit : ℕ) (name bytes : List ℕ) → told ≢ Untold → ForContent told (λ content. bytes ≡ content) → length bytes ≤ limit →
     Ok bytes ≡ answer_of limit name told

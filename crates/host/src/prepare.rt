@@ -1,5 +1,5 @@
 // All that comes before the text is written.
-ghost use Rattle.std.specs.Prelude.{◌≡◌, ◌≢◌, ◌≤◌, ◌∷◌, [], ◌++◌, ℕ, List, Some, None, true, length, All, IfOk, IfErr, IfSome};
+ghost use Rattle.std.specs.Prelude.{◌≡◌, ◌≢◌, ◌<◌, ◌≤◌, ◌∷◌, [], ◌++◌, ℕ, List, Some, None, true, length, All, IfOk, IfErr, IfSome};
 ghost use Rattle.std.specs.Option.{option_to_list};
 ghost use Rattle.manifest.specs.Names.{is_file_name};
 ghost use Rattle.manifest.specs.Manifest.{manifest_of};
@@ -113,11 +113,12 @@ fn read_input<F: Files>(
 // The programs of the files, or the first that is refused.
 fn elfs_in(alloc: Global, names: &[Name], contents: &[Blob]) -> Result<Vec<Elf>, Cause>
     requires { length names.now ≡ length contents.now }
-    ensures { Gives (λ elfs. elfs.items) (programs_of names.now contents.now) result }
+    ensures gives { Gives (λ elfs. elfs.items) (programs_of names.now contents.now) result }
+    ensures count { IfOk result (λ elfs. length elfs.items ≡ length names.now) }
 {
     let mut elfs = Vec::new(alloc);
-    for (name, bytes) in names.iter().zip(contents) {
-        elfs.push(elf_in(alloc, name, bytes.items())?)?;
+    for (i, name) in names.iter().enumerate() {
+        elfs.push(elf_in(alloc, name, contents[i].items())?)?;
     }
     Ok(elfs)
 }
