@@ -3,3 +3,5 @@ pub mod Oracles
 pub mod Told
 pub mod Sources
 pub mod Programs
+pub mod Refusing
+pub mod Telling

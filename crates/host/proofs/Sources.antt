@@ -44,6 +44,11 @@ last_part content faults a b c kept first second = record {
   after = λ n. omega arith;
 }
 
+pub middle_part : {F : Type 0} (content : F → List ℕ → Told) (faults : F → List ℕ → ℕ) (a b c d : F) → ((n : List ℕ) → content b n ≡ content a n) →
+    ((n : List ℕ) → faults a n ≤ faults b n) → ((n : List ℕ) → faults b n ≤ faults c n) → ((n : List ℕ) → faults c n ≤ faults d n) →
+    IsPart (source_of content faults a d) (source_of content faults b c)
+middle_part content faults a b c d kept first second third = record { content = kept; before = first; within = second; after = third }
+
 -- ---- what parts tell
 
 -- a count that is the greatest, or has passed it

@@ -17,6 +17,16 @@ use Rattle.host_text.specs.declared.cause.Cause.TheVariants as causes
 use Rattle.host.specs.Outcome.{Place, Manifest, File, Input, limit_of, Answer, Source, Agrees, Answers, AllAgree, file_named, named, listed, alone, each, taken, programs_of, Plan, outcome, answer_of, answers_of, IsSteady}
 use Rattle.host.proofs.Steps.{Same, same_steps, fails_in}
 
+abbrev the_err : (A : Type 0) → Cause → Result A Cause
+the_err A cause = Err cause
+
+abbrev the_ok : (A : Type 0) → A → Result A Cause
+the_ok A x = Ok x
+
+abbrev cause_in : {A : Type 0} → Cause → Result A Cause → Cause
+cause_in other (Ok x) = other
+cause_in other (Err cause) = cause
+
 -- ---- one read
 
 short : (limit : ℕ) (name bytes : List ℕ) → length bytes ≤ limit → Ok bytes ≡ answer_of limit name (Holds bytes)
@@ -79,62 +89,119 @@ pub same_told : (words : List (String Global)) (s : Source) (answers : Answers) 
 same_told words s answers steady agree =
     same_outcome words answers (answers_of s.content) (λ place name. same_answer s (limit_of place) name (answers place name) steady (agree place name))
 
--- ---- words
+-- ---- causes
 
-each_words : (s : Source) (limit : ℕ) (answers : ℕ → List ℕ → Answer) → ((i : ℕ) (name : List ℕ) → Agrees s limit name (answers i name)) → (names : List (List ℕ)) →
-    each answers names ≡ Err causes.Words → ⊥
+-- What is true of each cause that comes behind the words.
+pub record Closed (P : Cause → Type 0) : Type 0 where
+  pub manifest : (e : ManifestErr) → P (causes.Manifest e)
+  pub unbuilt : P causes.Unbuilt
+  pub unread : (name : List ℕ) → P (causes.Unread name)
+  pub long : (name : List ℕ) → P (causes.Long name)
+  pub elf : (name : List ℕ) (e : ElfErr) → P (causes.Elf name e)
+  pub memory : P causes.Memory
+
+read_cause : (P : Cause → Type 0) → Closed P → (s : Source) (limit : ℕ) (name : List ℕ) (cause : Cause) → Agrees s limit name (Err cause) → P cause
+read_cause P closed s limit name (causes.Unread n) agrees = closed.unread n
+read_cause P closed s limit name (causes.Long n) agrees = closed.long n
+read_cause P closed s limit name causes.Memory agrees = closed.memory
+read_cause P closed s limit name causes.Done agrees = absurd agrees
+read_cause P closed s limit name causes.GuestEnded agrees = absurd agrees
+read_cause P closed s limit name causes.Words agrees = absurd agrees
+read_cause P closed s limit name (causes.Manifest e) agrees = absurd agrees
+read_cause P closed s limit name causes.Unbuilt agrees = absurd agrees
+read_cause P closed s limit name (causes.Elf n e) agrees = absurd agrees
+read_cause P closed s limit name causes.Sink agrees = absurd agrees
+
+each_cause : (P : Cause → Type 0) → Closed P → (s : Source) (limit : ℕ) (answers : ℕ → List ℕ → Answer) → ((i : ℕ) (name : List ℕ) → Agrees s limit name (answers i name)) →
+    (names : List (List ℕ)) (cause : Cause) → each answers names ≡ Err cause → P cause
 unfolding each
-each_words s limit answers agree [] is = cc
-each_words s limit answers agree (name ∷ names) is =
-    ⊎_elim (λ first. subst (Agrees s limit name) first (agree 0 name))
-    (λ more. ⊎_elim (each_words s limit (λ i. answers (suc i)) (λ i. agree (suc i)) names) (λ last. let h : Ok (more.0 ∷ last.0) ≡ Err causes.Words = last.1 in cc)
-    (fails_in (each (λ i. answers (suc i)) names) _ causes.Words more.1))
-    (fails_in (answers 0 name) _ causes.Words is)
+each_cause P closed s limit answers agree [] cause is = cc
+each_cause P closed s limit answers agree (name ∷ names) cause is =
+    ⊎_elim (λ first. read_cause P closed s limit name cause (subst (Agrees s limit name) first (agree 0 name)))
+    (λ more. ⊎_elim (each_cause P closed s limit (λ i. answers (suc i)) (λ i. agree (suc i)) names cause) (λ last. let h : Ok (more.0 ∷ last.0) ≡ Err cause = last.1 in cc)
+    (fails_in (each (λ i. answers (suc i)) names) _ cause more.1))
+    (fails_in (answers 0 name) _ cause is)
 
-listed_words : (r : Result Listing ManifestErr) → listed r ≡ Err causes.Words → ⊥
-listed_words (Ok listing) is = cc
-listed_words (Err e) is = cc
+pub err_cause : {A : Type 0} (a b : Cause) → the_err A a ≡ Err b → a ≡ b
+err_cause a b is = ap (cause_in a) is
 
-alone_words : (ms : List ModuleEntry) (gs : List GuestEntry) → alone ms gs ≡ Err causes.Words → ⊥
-alone_words [] gs is = cc
-alone_words (m ∷ []) [] is = cc
-alone_words (m ∷ []) (g ∷ []) is = cc
-alone_words (m ∷ []) (g ∷ h ∷ gs) is = cc
-alone_words (m ∷ n ∷ ms) gs is = cc
+no_plan : {A C : Type 0} (x : A) (cause : Cause) → the_ok A x ≡ Err cause → C
+no_plan x cause is = cc
 
-taken_words : (name : List ℕ) (r : Result Program ElfErr) → taken name r ≡ Err causes.Words → ⊥
-taken_words name (Ok program) is = cc
-taken_words name (Err e) is = cc
+listed_cause : (P : Cause → Type 0) → Closed P → (r : Result Listing ManifestErr) (cause : Cause) → listed r ≡ Err cause → P cause
+listed_cause P closed (Ok listing) cause is = cc
+listed_cause P closed (Err e) cause is = subst P (err_cause (causes.Manifest e) cause is) (closed.manifest e)
 
-programs_words : (names files : List (List ℕ)) → programs_of names files ≡ Err causes.Words → ⊥
+alone_cause : (P : Cause → Type 0) → Closed P → (ms : List ModuleEntry) (gs : List GuestEntry) (cause : Cause) → alone ms gs ≡ Err cause → P cause
+alone_cause P closed [] gs cause is = subst P (err_cause causes.Unbuilt cause is) closed.unbuilt
+alone_cause P closed (m ∷ []) [] cause is = subst P (err_cause causes.Unbuilt cause is) closed.unbuilt
+alone_cause P closed (m ∷ []) (g ∷ []) cause is = cc
+alone_cause P closed (m ∷ []) (g ∷ h ∷ gs) cause is = subst P (err_cause causes.Unbuilt cause is) closed.unbuilt
+alone_cause P closed (m ∷ n ∷ ms) gs cause is = subst P (err_cause causes.Unbuilt cause is) closed.unbuilt
+
+taken_cause : (P : Cause → Type 0) → Closed P → (name : List ℕ) (r : Result Program ElfErr) (cause : Cause) → taken name r ≡ Err cause → P cause
+taken_cause P closed name (Ok program) cause is = cc
+taken_cause P closed name (Err e) cause is = subst P (err_cause (causes.Elf name e) cause is) (closed.elf name e)
+
+programs_cause : (P : Cause → Type 0) → Closed P → (names files : List (List ℕ)) (cause : Cause) → programs_of names files ≡ Err cause → P cause
 unfolding programs_of
-programs_words [] files is = cc
-programs_words (name ∷ names) [] is = cc
-programs_words (name ∷ names) (bytes ∷ files) is =
-    ⊎_elim (taken_words name (elf_of bytes))
-    (λ more. ⊎_elim (programs_words names files) (λ last. let h : Ok (more.0 ∷ last.0) ≡ Err causes.Words = last.1 in cc)
-    (fails_in (programs_of names files) _ causes.Words more.1))
-    (fails_in (taken name (elf_of bytes)) _ causes.Words is)
+programs_cause P closed [] files cause is = cc
+programs_cause P closed (name ∷ names) [] cause is = cc
+programs_cause P closed (name ∷ names) (bytes ∷ files) cause is =
+    ⊎_elim (taken_cause P closed name (elf_of bytes) cause)
+    (λ more. ⊎_elim (programs_cause P closed names files cause) (λ last. let h : Ok (more.0 ∷ last.0) ≡ Err cause = last.1 in cc)
+    (fails_in (programs_of names files) _ cause more.1))
+    (fails_in (taken name (elf_of bytes)) _ cause is)
 
-named_words : (o : Option (List ℕ)) → named o ≡ Err causes.Words → o ≡ None
-named_words None is = refl
-named_words (Some name) is = absurd cc
+named_cause : (o : Option (List ℕ)) (cause : Cause) → named o ≡ Err cause → (o ≡ None) × (cause ≡ causes.Words)
+named_cause None cause is = (refl, sym (err_cause causes.Words cause is))
+named_cause (Some name) cause is = cc
+
+-- the words name no file, or the cause is one of those that come behind them
+pub outcome_cause : (P : Cause → Type 0) → Closed P → (words : List (String Global)) (s : Source) (answers : Answers) → AllAgree s answers → (cause : Cause) →
+    outcome words answers ≡ Err cause → ((file_named words ≡ None) × (cause ≡ causes.Words)) ⊎ P cause
+outcome_cause P closed words s answers agree cause is =
+    ⊎_elim (λ none. inl (named_cause (file_named words) cause none))
+    (λ a. inr (⊎_elim (λ text. read_cause P closed s 1048576 a.0 cause (subst (Agrees s 1048576 a.0) text (agree Manifest a.0)))
+    (λ b. ⊎_elim (listed_cause P closed (manifest_of b.0) cause)
+    (λ c. ⊎_elim (alone_cause P closed c.0.modules c.0.guests cause)
+    (λ d. ⊎_elim (each_cause P closed s 4194304 _ (λ i. agree (File i)) c.0.files cause)
+    (λ e. ⊎_elim (each_cause P closed s 1048576 _ (λ i. agree (Input i)) (option_to_list d.0.1.input) cause)
+    (λ f. ⊎_elim (programs_cause P closed c.0.files e.0 cause)
+    (λ g. no_plan _ cause g.1)
+    (fails_in (programs_of c.0.files e.0) _ cause f.1))
+    (fails_in (each (λ i. answers (Input i)) (option_to_list d.0.1.input)) _ cause e.1))
+    (fails_in (each (λ i. answers (File i)) c.0.files) _ cause d.1))
+    (fails_in (alone c.0.modules c.0.guests) _ cause c.1))
+    (fails_in (listed (manifest_of b.0)) _ cause b.1))
+    (fails_in (answers Manifest a.0) _ cause a.1)))
+    (fails_in (named (file_named words)) _ cause is)
+
+abbrev not_words : Cause → Type 0
+not_words cause = cause ≢ causes.Words
 
 -- just words that name no file are refused as words
 pub just_words : (words : List (String Global)) (s : Source) (answers : Answers) → AllAgree s answers → outcome words answers ≡ Err causes.Words → file_named words ≡ None
 just_words words s answers agree is =
-    ⊎_elim (named_words (file_named words))
-    (λ a. ⊎_elim (λ text. absurd (subst (Agrees s 1048576 a.0) text (agree Manifest a.0)))
-    (λ b. ⊎_elim (λ l. absurd (listed_words (manifest_of b.0) l))
-    (λ c. ⊎_elim (λ one. absurd (alone_words c.0.modules c.0.guests one))
-    (λ d. ⊎_elim (λ files. absurd (each_words s 4194304 _ (λ i. agree (File i)) c.0.files files))
-    (λ e. ⊎_elim (λ inputs. absurd (each_words s 1048576 _ (λ i. agree (Input i)) (option_to_list d.0.1.input) inputs))
-    (λ f. ⊎_elim (λ programs. absurd (programs_words c.0.files e.0 programs))
-    (λ g. absurd cc)
-    (fails_in (programs_of c.0.files e.0) _ causes.Words f.1))
-    (fails_in (each (λ i. answers (Input i)) (option_to_list d.0.1.input)) _ causes.Words e.1))
-    (fails_in (each (λ i. answers (File i)) c.0.files) _ causes.Words d.1))
-    (fails_in (alone c.0.modules c.0.guests) _ causes.Words c.1))
-    (fails_in (listed (manifest_of b.0)) _ causes.Words b.1))
-    (fails_in (answers Manifest a.0) _ causes.Words a.1))
-    (fails_in (named (file_named words)) _ causes.Words is)
+    let closed : Closed not_words = record {
+      manifest = λ e is. cc; unbuilt = λ is. cc; unread = λ n is. cc; long = λ n is. cc; elf = λ n e is. cc; memory = λ is. cc;
+    } in
+    ⊎_elim (λ none. none.0) (λ other. absurd (other refl)) (outcome_cause not_words closed words s answers agree causes.Words is)
+
+-- the causes for which nothing is run
+abbrev pub IsRefusal : Cause → Type 0
+IsRefusal causes.Done = ⊥
+IsRefusal causes.GuestEnded = ⊥
+IsRefusal causes.Sink = ⊥
+IsRefusal causes.Words = Unit {0}
+IsRefusal (causes.Manifest e) = Unit {0}
+IsRefusal causes.Unbuilt = Unit {0}
+IsRefusal (causes.Unread name) = Unit {0}
+IsRefusal (causes.Long name) = Unit {0}
+IsRefusal (causes.Elf name e) = Unit {0}
+IsRefusal causes.Memory = Unit {0}
+
+pub just_refusals : (words : List (String Global)) (s : Source) (answers : Answers) → AllAgree s answers → (cause : Cause) → outcome words answers ≡ Err cause → IsRefusal cause
+just_refusals words s answers agree cause is =
+    let closed : Closed IsRefusal = record { manifest = λ e. tt; unbuilt = tt; unread = λ n. tt; long = λ n. tt; elf = λ n e. tt; memory = tt } in
+    ⊎_elim (λ none. subst IsRefusal (sym none.1) tt) (λ other. other) (outcome_cause IsRefusal closed words s answers agree cause is)
