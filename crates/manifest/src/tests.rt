@@ -2,7 +2,7 @@ use super::*;
 use cc_base::Name;
 use probe_tools::Tool;
 use rv_decode::Isa;
-use std::alloc::{AllocError, Global};
+use std::alloc::Global;
 use std::test::Fail;
 
 const FULL: &str = r#"
@@ -34,130 +34,131 @@ stack = 4096
 input = "text"
 "#;
 
-#[test]
-fn files_and_modules_are_read(rt: HostRuntime) -> Result<(), Fail> {
-    let manifest = Manifest::read(rt.alloc(), FULL.as_bytes())?;
-    let files = manifest.files();
-    assert_eq!(rt; files.len(), 2);
-    assert_eq!(rt; files[0].items(), b"p.elf".as_slice());
-    assert_eq!(rt; files[1].items(), b"lib/q.elf".as_slice());
-    let modules = manifest.modules();
-    assert_eq!(rt; modules.len(), 2);
-    let main = &modules[0];
-    assert_eq!(rt; main.name.items(), b"main".as_slice());
-    assert_eq!(rt; main.file, 1);
-    assert_eq!(rt; main.base, 0);
-    let lib = &modules[1];
-    assert_eq!(rt; lib.name.items(), b"lib_2".as_slice());
-    assert_eq!(rt; lib.file, 0);
-    assert_eq!(rt; lib.base, 0xffff_fffc);
-    Ok(())
+fn are_files(files: &[Name]) -> bool {
+    match files {
+        [p, q] => p.items() == b"p.elf".as_slice() && q.items() == b"lib/q.elf".as_slice(),
+        _ => false,
+    }
 }
 
-#[test]
-fn what_is_left_out_has_its_default(rt: HostRuntime) -> Result<(), Fail> {
-    let manifest = Manifest::read(rt.alloc(), FULL.as_bytes())?;
-    let guests = manifest.guests();
-    assert_eq!(rt; guests.len(), 2);
-    let guest = &guests[0];
-    assert_eq!(rt; guest.name.items(), b"g1".as_slice());
-    assert_eq!(rt; guest.module, 1);
-    assert_eq!(rt; guest.round, 0);
-    assert!(rt; guest.tool == Tool::Blocks);
-    assert!(rt; guest.isa == Isa::I);
-    assert_eq!(rt; guest.max, 32);
-    assert_eq!(rt; guest.fuel, 10_000_000);
-    assert_eq!(rt; guest.pool, 4_096);
-    assert_eq!(rt; guest.stack, 65_536);
-    assert!(rt; guest.input.is_none());
-    Ok(())
+fn are_modules(modules: &[ModuleRow]) -> bool {
+    match modules {
+        [main, lib] => {
+            is_module(main, b"main", 1, 0) && is_module(lib, b"lib_2", 0, 4_294_967_292)
+        }
+        _ => false,
+    }
 }
 
-#[test]
-fn what_is_given_is_taken(rt: HostRuntime) -> Result<(), Fail> {
-    let manifest = Manifest::read(rt.alloc(), FULL.as_bytes())?;
-    let guests = manifest.guests();
-    assert_eq!(rt; guests.len(), 2);
-    let guest = &guests[1];
-    assert_eq!(rt; guest.name.items(), b"g-2".as_slice());
-    assert_eq!(rt; guest.module, 0);
-    assert_eq!(rt; guest.round, 15);
-    assert!(rt; guest.tool == Tool::Memory);
-    assert!(rt; guest.isa == Isa::Im);
-    assert_eq!(rt; guest.max, 64);
-    assert_eq!(rt; guest.fuel, 1_000_000_000);
-    assert_eq!(rt; guest.pool, 16);
-    assert_eq!(rt; guest.stack, 4_096);
-    let named = match &guest.input {
-        Some(name) => name.items() == b"text".as_slice(),
-        None => false,
+fn is_module(row: &ModuleRow, name: &[u8], file: u32, base: u32) -> bool {
+    row.name.items() == name && row.file == file && row.base == base
+}
+
+fn are_guests(guests: &[GuestRow]) -> bool {
+    match guests {
+        [left_out, given] => has_defaults(left_out) && has_all(given),
+        _ => false,
+    }
+}
+
+fn has_defaults(g: &GuestRow) -> bool {
+    g.name.items() == b"g1".as_slice()
+        && g.tool == Tool::Blocks
+        && g.isa == Isa::I
+        && g.input.is_none()
+        && numbers_of(g) == [1, 0, 32, 10_000_000, 4_096, 65_536]
+}
+
+fn has_all(g: &GuestRow) -> bool {
+    let input = match &g.input {
+        Some(name) => name.items(),
+        None => b"".as_slice(),
     };
-    assert!(rt; named);
+    g.name.items() == b"g-2".as_slice()
+        && g.tool == Tool::Memory
+        && g.isa == Isa::Im
+        && input == b"text".as_slice()
+        && numbers_of(g) == [0, 15, 64, 1_000_000_000, 16, 4_096]
+}
+
+fn numbers_of(g: &GuestRow) -> [u64; 6] {
+    [
+        u64::from(g.module),
+        u64::from(g.round),
+        u64::from(g.max),
+        g.fuel,
+        u64::from(g.pool),
+        u64::from(g.stack),
+    ]
+}
+
+#[test]
+fn files_modules_and_guests_are_read(rt: HostRuntime) -> Result<(), Fail> {
+    let manifest = Manifest::read(rt.alloc(), FULL.as_bytes())?;
+    assert!(rt; are_files(manifest.files()), "files");
+    assert!(rt; are_modules(manifest.modules()), "modules");
+    assert!(rt; are_guests(manifest.guests()), "guests");
     Ok(())
 }
 
-// Whether these bytes are refused with this answer.
-fn is_refused(alloc: Global, bytes: &[u8], want: &ManifestErr) -> bool {
+// Whether this is refused for this cause at this key.
+fn is_refused(alloc: Global, bytes: &[u8], cause: &str, key: &str) -> bool {
     match Manifest::read(alloc, bytes) {
         Ok(_) => false,
-        Err(e) => e == *want,
+        Err(e) => is_fault(&e, cause, key),
     }
 }
 
-fn named(alloc: Global, key: &str) -> Result<Name, AllocError> {
-    Name::of(alloc, key.as_bytes())
+fn is_fault(e: &ManifestErr, cause: &str, key: &str) -> bool {
+    let (word, path) = match e {
+        ManifestErr::Text => ("text", b"".as_slice()),
+        ManifestErr::Unknown(path) => ("unknown", path.items()),
+        ManifestErr::Missing(path) => ("missing", path.items()),
+        ManifestErr::Kind(path) => ("kind", path.items()),
+        ManifestErr::TooMany(path) => ("many", path.items()),
+        ManifestErr::BadName(path) => ("name", path.items()),
+        ManifestErr::Range(path) => ("range", path.items()),
+        ManifestErr::Repeated(path) => ("repeated", path.items()),
+        ManifestErr::Memory => return false,
+    };
+    word == cause && path == key.as_bytes()
 }
 
 #[test]
-fn no_toml_is_refused(rt: HostRuntime) {
-    let alloc = rt.alloc();
-    for bytes in [b"\xff".as_slice(), b"files = ", b"a = 1\na = 2"] {
-        assert!(rt; is_refused(alloc, bytes, &ManifestErr::Text));
+fn empty_manifest(rt: HostRuntime) {
+    assert!(rt; is_refused(rt.alloc(), b"", "missing", "files"));
+    assert!(rt; is_refused(rt.alloc(), b"\xff", "text", ""));
+}
+
+#[test]
+fn the_first_rule_that_fails_is_the_answer(rt: HostRuntime) {
+    for (text, cause, key) in [
+        ("a = 1\na = 2", "text", ""),
+        ("b = 1\na = 1\nfiles = 1", "unknown", "a"),
+        ("files = ['p.elf', 1]", "kind", "files"),
+        ("files = []", "many", "files"),
+        ("files = ['p', 'p', '']", "name", "files"),
+        ("files = ['p', 'q', 'p']", "repeated", "files"),
+        ("files = ['p']\nmodule = [1]", "kind", "module"),
+        (
+            "files = ['p']\nmodule = [{name = 'm', file = 'p'}, {name = 'm', file = 'q'}]",
+            "repeated",
+            "module.1.name",
+        ),
+        (
+            "files = ['p']\nmodule = [{name = 'm', file = 'p'}]\nguest = [{name = 1, zeal = 1}]",
+            "unknown",
+            "guest.0.zeal",
+        ),
+        (
+            "files = ['p']\nmodule = [{name = 'm', file = 'p'}]\nguest = [{name = 'g', module = 'm', max = 65}]",
+            "range",
+            "guest.0.max",
+        ),
+    ] {
+        assert!(rt;
+            is_refused(rt.alloc(), text.as_bytes(), cause, key),
+            "{cause} {key}"
+        );
     }
-}
-
-#[test]
-fn an_empty_manifest_has_no_files(rt: HostRuntime) -> Result<(), Fail> {
-    let alloc = rt.alloc();
-    let want = ManifestErr::Missing(named(alloc, "files")?);
-    assert!(rt; is_refused(alloc, b"", &want));
-    Ok(())
-}
-
-#[test]
-fn lists_are_refused_by_their_own_key(rt: HostRuntime) -> Result<(), Fail> {
-    let alloc = rt.alloc();
-    let unknown = ManifestErr::Unknown(named(alloc, "a")?);
-    assert!(rt; is_refused(alloc, b"b = 1\na = 1\nfiles = 1", &unknown));
-    let kind = ManifestErr::Kind(named(alloc, "files")?);
-    assert!(rt; is_refused(alloc, b"files = ['p.elf', 1]", &kind));
-    let many = ManifestErr::TooMany(named(alloc, "files")?);
-    assert!(rt; is_refused(alloc, b"files = []", &many));
-    let name = ManifestErr::BadName(named(alloc, "files")?);
-    assert!(rt; is_refused(alloc, b"files = ['p', 'p', '']", &name));
-    let repeated = ManifestErr::Repeated(named(alloc, "files")?);
-    assert!(rt; is_refused(alloc, b"files = ['p', 'q', 'p']", &repeated));
-    let module = ManifestErr::Kind(named(alloc, "module")?);
-    assert!(rt; is_refused(alloc, b"files = ['p']\nmodule = [1]", &module));
-    Ok(())
-}
-
-#[test]
-fn tables_are_refused_by_the_path_of_the_key(rt: HostRuntime) -> Result<(), Fail> {
-    let alloc = rt.alloc();
-    let two =
-        "files = ['p']\n[[module]]\nname = 'm'\nfile = 'p'\n[[module]]\nname = 'm'\nfile = 'q'";
-    let repeated = ManifestErr::Repeated(named(alloc, "module.1.name")?);
-    assert!(rt; is_refused(alloc, two.as_bytes(), &repeated));
-    let guest = "files = ['p']\n[[module]]\nname = 'm'\nfile = 'p'\n[[guest]]\n";
-    let late = format!(in alloc; "{guest}name = 1\nzeal = 1")?;
-    let unknown = ManifestErr::Unknown(named(alloc, "guest.0.zeal")?);
-    assert!(rt; is_refused(alloc, late.as_bytes(), &unknown));
-    let high = format!(in alloc; "{guest}name = 'g'\nmodule = 'm'\nfuel = 1000000001")?;
-    let range = ManifestErr::Range(named(alloc, "guest.0.fuel")?);
-    assert!(rt; is_refused(alloc, high.as_bytes(), &range));
-    let other = format!(in alloc; "{guest}name = 'g'\nmodule = 'n'")?;
-    let name = ManifestErr::BadName(named(alloc, "guest.0.module")?);
-    assert!(rt; is_refused(alloc, other.as_bytes(), &name));
-    Ok(())
 }
