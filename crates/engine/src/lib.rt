@@ -7,6 +7,8 @@
 
 mod block;
 mod probing;
+#[cfg(test)]
+mod tests;
 
 pub use block::{Left, run_block};
 pub use probing::{event_of_access, event_of_call};

@@ -10,6 +10,8 @@ mod guest;
 mod process;
 mod run;
 mod step;
+#[cfg(test)]
+mod tests;
 
 pub use calls::answer;
 pub use guest::{Module, Ran, Setup};

@@ -10,5 +10,7 @@ mod events;
 mod find;
 mod run;
 mod step;
+#[cfg(test)]
+mod tests;
 
 pub use run::interpret;
