@@ -1,4 +1,4 @@
-//! Runs one guest: `cachehost run FILE`, on the files of the working folder and standard output. The exit status is the
+//! Runs the guest of a manifest: `cachehost run FILE`, on the files of the working folder and standard output. The exit status is the
 //! host's. It stands on `host` and `outside`, and on the clause of `host::host` for the rest.
 #![tactic(auto)]
 

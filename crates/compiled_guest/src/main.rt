@@ -1,11 +1,11 @@
 //! A run of a guest that gcc compiled, of some forty thousand bytes in two segments: `letters.elf` of the working folder
-//! is run to its exit, and its text is written to standard output.
+//! is run to its exit under the manifest `letters.toml`, and its text is written to standard output.
 //!
 //! It stands on `host` and `outside`.
 #![tactic(auto)]
 
 ghost use Rattle.std.specs.Prelude.{◌≡◌, Some, codes, IfOk};
-ghost use Rattle.host.specs.Answer.{file_named};
+ghost use Rattle.host.specs.Outcome.{file_named};
 
 use host::host;
 use outside::{DiskFiles, StdSink};
@@ -25,10 +25,10 @@ fn main(rt: HostRuntime) -> ExitCode {
 
 // The words that have the host run the guest.
 fn words(alloc: Global) -> Result<Vec<String>, AllocError>
-    ensures { IfOk result (λ words. file_named words.items ≡ Some (codes "letters.elf")) }
+    ensures { IfOk result (λ words. file_named words.items ≡ Some (codes "letters.toml")) }
 {
     let mut words = Vec::new(alloc);
     words.push(String::from_str(alloc, "run")?)?;
-    words.push(String::from_str(alloc, "letters.elf")?)?;
+    words.push(String::from_str(alloc, "letters.toml")?)?;
     Ok(words)
 }

@@ -1,5 +1,5 @@
 -- The programs of files, one by one.
-use Rattle.std.proofs.Common.{◌≡◌, ℕ, zero, suc, ◌+◌, ◌<◌, List, [], ◌∷◌, ◌++◌, length, take, get_or, Ok, Err, refl, sym, ◌∙◌, ap, subst, arith}
+use Rattle.std.proofs.Common.{◌≡◌, ℕ, zero, suc, ◌+◌, ◌<◌, List, [], ◌∷◌, ◌++◌, length, take, get_or, Ok, Err, refl, ◌∙◌, subst, arith}
 use Rattle.plain_machine.specs.Program.{Program}
 use Rattle.elf_map.specs.Elf.{elf_of}
 use Rattle.host_text.specs.declared.cause.Cause.{Cause}

@@ -1,5 +1,5 @@
 -- What the work comes to, from its steps.
-use Rattle.std.proofs.Common.{◌≡◌, ℕ, List, [], ◌∷◌, Some, None, Option, Ok, Err, Result, refl, sym, ◌∙◌, ap}
+use Rattle.std.proofs.Common.{◌≡◌, ℕ, List, Some, None, Ok, Err, Result, ◌∙◌, ap}
 use Rattle.std.specs.Prelude.{String}
 use Rattle.std.specs.Option.{option_to_list}
 use Rattle.std.specs.declared.alloc.Global.{Global}
@@ -13,7 +13,7 @@ use Rattle.host.specs.Outcome.{◌>>=◌, Answer, Source, Agrees, AllAgree, Plan
 use Rattle.host.specs.Answer.{IsRunOf, Refuses, Runs}
 use Rattle.host.specs.Reading.{AreRead, Fails}
 use Rattle.host.proofs.Steps.{goes_on, stops}
-use Rattle.host.proofs.Oracles.{answer_at, at_itself, agrees_at, nothing, agrees_nothing, Known, known_all, known_failure, answers_by, all_agree}
+use Rattle.host.proofs.Oracles.{answer_at, at_itself, agrees_at, nothing, agrees_nothing, known_all, known_failure, answers_by, all_agree}
 
 agree_with : (s : Source) (name : List ℕ) (answer : Answer) (files inputs : ℕ → List ℕ → Answer) → Agrees s 1048576 name answer →
     ((i : ℕ) (asked : List ℕ) → Agrees s 4194304 asked (files i asked)) → ((i : ℕ) (asked : List ℕ) → Agrees s 1048576 asked (inputs i asked)) →

@@ -1,5 +1,5 @@
 -- Steps one after the other, the first failure of which is the answer.
-use Rattle.std.proofs.Common.{◌≡◌, Result, Ok, Err, refl, sym, ◌∙◌, ap, inl, inr, ◌⊎◌}
+use Rattle.std.proofs.Common.{◌≡◌, Result, Ok, Err, sym, ◌∙◌, ap, inl, inr, ◌⊎◌}
 use Rattle.host_text.specs.declared.cause.Cause.{Cause}
 use Rattle.host_text.specs.declared.cause.Cause.TheVariants as causes
 use Rattle.host.specs.Outcome.{◌>>=◌}

@@ -1,5 +1,5 @@
 -- What the answers of the top call say.
-use Rattle.std.proofs.Common.{◌≡◌, ◌≢◌, ◌≤◌, ℕ, if◌then◌else◌, List, [], ◌∷◌, ◌++◌, take, Option, Some, None, Ok, Err, Result, OnOk, OnErr, IsErr, refl, sym, ◌∙◌, ap, subst, ⊎_elim, ◌⊎◌, inl, inr}
+use Rattle.std.proofs.Common.{◌≡◌, ◌≢◌, ℕ, if◌then◌else◌, List, [], ◌∷◌, take, Option, None, Ok, Err, Result, OnOk, OnErr, IsErr, refl, sym, ◌∙◌, ap, subst, ⊎_elim, ◌⊎◌, inl, inr}
 use Rattle.std.specs.Prelude.{String}
 use Rattle.std.specs.declared.alloc.Global.{Global}
 use Rattle.std.proofs.Math.Seq.{take-nil}
@@ -11,9 +11,8 @@ use Rattle.host_text.specs.declared.cause.Cause.{Cause}
 use Rattle.host_text.specs.declared.cause.Cause.TheVariants as causes
 use Rattle.host_text.proofs.Written.{nothing_more}
 use Rattle.host.specs.declared.ended.GuestEnd.{GuestEnd}
-use Rattle.host.specs.Outcome.{Plan, Source, Answers, AllAgree, file_named, outcome, answers_of, IsSteady}
+use Rattle.host.specs.Outcome.{Plan, Source, file_named, outcome, answers_of, IsSteady}
 use Rattle.host.specs.Answer.{Seen, is_exit, cause_of, Runs, Refuses, Prints, TellsLine, TellsRefusal, Tells, IsOfRun, Decides, IsFair, RanOrMemory}
-use Rattle.host.proofs.Steps.{Same}
 use Rattle.host.proofs.Told.{same_told, err_cause, just_words, just_refusals, IsRefusal}
 
 -- ---- what was written

@@ -1,10 +1,9 @@
 -- What files that tell all answer.
-use Rattle.std.proofs.Common.{◌≡◌, ◌≢◌, ℕ, zero, suc, ◌<◌, ◌≤◌, nat_le, true, false, List, [], ◌∷◌, length, if◌then◌else◌, Option, Some, None, Ok, Err, Result, refl, sym, ◌∙◌, ap, subst, inl, inr, ⊎_elim, ◌⊎◌, arith}
+use Rattle.std.proofs.Common.{◌≡◌, ◌≢◌, ℕ, suc, ◌<◌, ◌≤◌, List, [], ◌∷◌, length, if◌then◌else◌, Option, Some, None, Ok, Err, Result, refl, sym, ◌∙◌, ap, subst, inl, inr, ⊎_elim, ◌⊎◌, arith}
 use Rattle.std.specs.Prelude.{String}
 use Rattle.std.specs.declared.alloc.Global.{Global}
 use Rattle.std.specs.Option.{option_to_list}
 use Rattle.std.proofs.lemmas.Bool.Decides.{leb_tells}
-use Rattle.outside.specs.Faults.{Rose}
 use Rattle.outside.specs.Told.{Told, Untold, Absent, Holds, ForContent}
 use Rattle.plain_machine.specs.Program.{Program}
 use Rattle.manifest.specs.declared.error.ManifestErr.{ManifestErr}
@@ -14,7 +13,7 @@ use Rattle.elf_map.specs.declared.error.ElfErr.{ElfErr}
 use Rattle.elf_map.specs.Elf.{elf_of}
 use Rattle.host_text.specs.declared.cause.Cause.{Cause}
 use Rattle.host_text.specs.declared.cause.Cause.TheVariants as causes
-use Rattle.host.specs.Outcome.{Place, Manifest, File, Input, limit_of, Answer, Source, Agrees, Answers, AllAgree, file_named, named, listed, alone, each, taken, programs_of, Plan, outcome, answer_of, answers_of, IsSteady}
+use Rattle.host.specs.Outcome.{Place, Manifest, File, Input, limit_of, Answer, Source, Agrees, Answers, AllAgree, file_named, named, listed, alone, each, taken, programs_of, outcome, answer_of, answers_of, IsSteady}
 use Rattle.host.proofs.Steps.{Same, same_steps, fails_in}
 
 abbrev the_err : (A : Type 0) → Cause → Result A Cause
@@ -184,7 +183,12 @@ not_words cause = cause ≢ causes.Words
 pub just_words : (words : List (String Global)) (s : Source) (answers : Answers) → AllAgree s answers → outcome words answers ≡ Err causes.Words → file_named words ≡ None
 just_words words s answers agree is =
     let closed : Closed not_words = record {
-      manifest = λ e is. cc; unbuilt = λ is. cc; unread = λ n is. cc; long = λ n is. cc; elf = λ n e is. cc; memory = λ is. cc;
+      manifest = λ e is. cc;
+      unbuilt = λ is. cc;
+      unread = λ n is. cc;
+      long = λ n is. cc;
+      elf = λ n e is. cc;
+      memory = λ is. cc;
     } in
     ⊎_elim (λ none. none.0) (λ other. absurd (other refl)) (outcome_cause not_words closed words s answers agree causes.Words is)
 

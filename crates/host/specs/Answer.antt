@@ -1,5 +1,5 @@
 -- What each answer of the host says.
-use Rattle.std.specs.Prelude.{◌≡◌, ◌⊎◌, ℕ, Bool, true, false, if◌then◌else◌, List, [], ◌∷◌, take, unwrap_or, Option, Result, Ok, Err, String}
+use Rattle.std.specs.Prelude.{◌≡◌, ◌⊎◌, ℕ, Bool, true, false, if◌then◌else◌, List, [], ◌∷◌, take, Option, Result, Ok, Err, String}
 use Rattle.std.specs.declared.alloc.Global.{Global}
 use Rattle.probe_tools.specs.Rows.{Counts}
 use Rattle.plain_machine.specs.declared.ends.End.{End}
@@ -8,7 +8,6 @@ use Rattle.plain_machine.specs.Machine.{Guest, Setting}
 use Rattle.plain_machine.specs.Plain.{IsPlainRun}
 use Rattle.outside.specs.Faults.{Rose}
 use Rattle.outside.specs.Sink.{with_bytes}
-use Rattle.outside.specs.Told.{Told}
 use Rattle.host_text.specs.Refusals.{refusal_text}
 use Rattle.host_text.specs.Text.{text_of}
 use Rattle.host_text.specs.declared.cause.Cause.{Cause}

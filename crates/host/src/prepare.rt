@@ -23,7 +23,9 @@ use std::alloc::{AllocError, Global};
 
 /// The most bytes of a manifest, of a file and of an input.
 const MOST_MANIFEST: u32 = 1_048_576;
+
 const MOST_FILE: u32 = 4_194_304;
+
 const MOST_INPUT: u32 = 1_048_576;
 
 /// A run that is done and not yet printed.
@@ -35,11 +37,7 @@ pub struct Prepared {
 }
 
 /// Reads what the words name, runs its guest, and makes its text.
-pub fn prepare<F: Files>(
-    alloc: Global,
-    words: &[String],
-    files: &mut F,
-) -> Result<Prepared, Cause>
+pub fn prepare<F: Files>(alloc: Global, words: &[String], files: &mut F) -> Result<Prepared, Cause>
     ensures done { IfOk result (λ p. (guest : GuestEnd) × (p.guests.items ≡ guest ∷ []) × (p.cause ≡ cause_of guest.end)
         × Runs words.now (source_of F.content F.faults files.old files.new) guest p.text.items) }
     ensures refused { IfErr result (λ cause. cause ≢ Cause.Memory → Refuses words.now (source_of F.content F.faults files.old files.new) cause) }
@@ -94,11 +92,7 @@ fn alone(manifest: &Manifest) -> Option<(&ModuleRow, &GuestRow)>
 }
 
 // What is read of the guest's input, if it has one.
-fn read_input<F: Files>(
-    alloc: Global,
-    guest: &GuestRow,
-    files: &mut F,
-) -> Result<Vec<Blob>, Cause>
+fn read_input<F: Files>(alloc: Global, guest: &GuestRow, files: &mut F) -> Result<Vec<Blob>, Cause>
     ensures read { IfOk result (λ all. AreRead (source_of F.content F.faults files.old files.new) 1048576 (option_to_list guest.now.input) all.items) }
     ensures failed { IfErr result (Fails (source_of F.content F.faults files.old files.new) 1048576 (option_to_list guest.now.input)) }
     ensures kept { (n : List ℕ) → F.content files.new n ≡ F.content files.old n }

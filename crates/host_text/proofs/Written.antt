@@ -53,18 +53,21 @@ pieces_at f (x ∷ xs) (suc i) d within =
 -- a front of a piece, behind what is written, is a front of the whole
 front_behind : (done piece rest : List ℕ) (n : ℕ) → (m : ℕ) × (take m (done ++ (piece ++ rest)) ≡ done ++ take n piece)
 front_behind done piece rest n =
-    let short : min n (length piece) ≤ length piece = omega arith in
-    (length done + min n (length piece),
-    take-append-add done (piece ++ rest) (min n (length piece)) ∙ ap (λ t. done ++ t) (take-append-le (min n (length piece)) piece rest short ∙ take_min n piece))
+    let short : min n (length piece) ≤ length piece = omega arith in (
+      length done + min n (length piece),
+      take-append-add done (piece ++ rest) (min n (length piece)) ∙ ap (λ t. done ++ t) (take-append-le (min n (length piece)) piece rest short ∙ take_min n piece),
+    )
 
 pub front_at : {X : Type 0} (f : X → List ℕ) (xs : List X) (i : ℕ) (d : X) (start before after : Option (List ℕ)) → i < length xs →
     before ≡ with_bytes start (flat_map f (take i xs)) → (n : ℕ) × (after ≡ with_bytes before (take n (f (get_or xs i d)))) →
     (m : ℕ) × (after ≡ with_bytes start (take m (flat_map f xs)))
 front_at f xs i d start before after within so_far (n, step) =
     let (rest, whole) = pieces_at f xs i d within in
-    let (m, front) = front_behind (flat_map f (take i xs)) (f (get_or xs i d)) (flat_map f rest) n in
-    (m, step ∙ ap (λ held. with_bytes held (take n (f (get_or xs i d)))) so_far ∙ with_more start (flat_map f (take i xs)) (take n (f (get_or xs i d)))
-    ∙ ap (λ bytes. with_bytes start bytes) (sym front ∙ ap (take m) (sym whole)))
+    let (m, front) = front_behind (flat_map f (take i xs)) (f (get_or xs i d)) (flat_map f rest) n in (
+      m,
+      step ∙ ap (λ held. with_bytes held (take n (f (get_or xs i d)))) so_far ∙ with_more start (flat_map f (take i xs)) (take n (f (get_or xs i d)))
+          ∙ ap (λ bytes. with_bytes start bytes) (sym front ∙ ap (take m) (sym whole)),
+    )
 
 -- one more piece is written
 pub written_piece : {X : Type 0} (f : X → List ℕ) (xs : List X) (i : ℕ) (d : X) (start before after : Option (List ℕ)) → i < length xs →

@@ -1,15 +1,24 @@
-// Guests as files, and their runs.
+// Guests as files under a manifest, and their runs.
 ghost use Rattle.std.specs.Prelude.{◌<◌, ◌^◌, length};
 
+use cc_base::Blob;
 use elf_map::Elf;
-use guest_run::Guest;
-use host::{host, text_of};
+use guest_run::{Module, Setup};
+use host::host;
+use host_text::text_of;
+use manifest::{GuestRow, Manifest};
 use outside::{MemFiles, MemSink};
 use plain_run::interpret;
-use rv_decode::Isa;
 use std::alloc::{AllocError, Global};
 use std::process::Abort;
 use std::test::Fail;
+
+/// The keys of the guest in most rows.
+pub const FRAME: &str = "max = 16\nfuel = 100000\n";
+
+// The manifest of one file, one module and one guest, up to the guest's further keys.
+const MANIFEST: &str =
+    "files = ['p.elf']\n[[module]]\nname = 'main'\nfile = 'p.elf'\n[[guest]]\nname = 'g1'\nmodule = 'main'\n";
 
 // An ELF file of type 2 with the entry 00010000 and one program header of type 1, for a segment at offset 84 and address
 // 00010000, up to the sizes of the segment.
@@ -32,6 +41,18 @@ pub fn elf(alloc: Global, flags: u8, segment: &[u8]) -> Result<Vec<u8>, AllocErr
     Ok(file)
 }
 
+/// The file of a segment of these words, with these flags.
+pub fn elf_of_words(alloc: Global, flags: u8, words: &[u32]) -> Result<Vec<u8>, Fail> {
+    let mut segment = Vec::new(alloc);
+    for word in words {
+        segment.extend_from_slice(&word.to_le_bytes())?;
+    }
+    if segment.len() >= 4096 {
+        return Err(Fail::from("too many words"));
+    }
+    Ok(elf(alloc, flags, &segment)?)
+}
+
 /// The words of a command.
 pub fn words(alloc: Global, texts: &[&str]) -> Result<Vec<String>, AllocError> {
     let mut words = Vec::new(alloc);
@@ -41,60 +62,83 @@ pub fn words(alloc: Global, texts: &[&str]) -> Result<Vec<String>, AllocError> {
     Ok(words)
 }
 
-/// The bytes of instruction words.
-pub fn code(alloc: Global, words: &[u32]) -> Result<Vec<u8>, AllocError> {
-    let mut bytes = Vec::new(alloc);
-    for word in words {
-        bytes.extend_from_slice(&word.to_le_bytes())?;
+/// The manifest of one file with these further keys of its guest.
+pub fn manifest(alloc: Global, keys: &str) -> Result<String, AllocError> {
+    let mut text = String::from_str(alloc, MANIFEST)?;
+    text.push_str(keys)?;
+    Ok(text)
+}
+
+// What a guest of a manifest is run with.
+fn setup(guest: &GuestRow, input: Blob) -> Setup {
+    Setup {
+        isa: guest.isa,
+        tool: guest.tool,
+        max: guest.max,
+        fuel: guest.fuel,
+        pool: guest.pool,
+        stack: guest.stack,
+        input,
     }
-    Ok(bytes)
 }
 
 // The text of the run, as the interpreter gives it.
-fn interpreted(alloc: Global, file: &[u8]) -> Result<Vec<u8>, Fail> {
-    let elf = Elf::read(alloc, file)?;
-    let guest = Guest {
-        isa: Isa::I,
-        stack: 65_536,
-        fuel: 100_000,
+fn interpreted(alloc: Global, manifest: &[u8], file: &[u8], input: &[u8]) -> Result<Vec<u8>, Fail> {
+    let Ok(manifest) = Manifest::read(alloc, manifest) else {
+        return Err(Fail::from("the manifest is refused"));
     };
-    let ran = interpret(alloc, &elf, 0, &guest, &[])?;
-    Ok(text_of(alloc, &ran)?)
+    let mut elfs = Vec::new(alloc);
+    elfs.push(Elf::read(alloc, file)?)?;
+    let ([module], [guest]) = (manifest.modules(), manifest.guests()) else {
+        return Err(Fail::from("more than one guest"));
+    };
+    if module.file > 0 {
+        return Err(Fail::from("more than one file"));
+    }
+    let placed = Module {
+        base: module.base,
+        file: module.file,
+    };
+    let ran = interpret(alloc, &elfs, placed, &setup(guest, Blob::of(alloc, input)?))?;
+    Ok(text_of(alloc, &guest.name, &ran)?)
 }
 
-/// The run of this file prints this text and gives this status, and the interpreter gives the same text.
-pub fn prints(
+/// The run of this file under these keys, with this content of the file `in`, prints this text and gives this status, and
+/// the interpreter gives the same text.
+pub fn prints_with(
     rt: &impl Abort,
     alloc: Global,
+    keys: &str,
     file: &[u8],
+    input: &[u8],
     status: u8,
     text: &[u8],
 ) -> Result<(), Fail> {
+    let manifest = manifest(alloc, keys)?;
     let mut files = MemFiles::new(alloc);
+    files.put("m.toml", manifest.as_bytes())?;
     files.put("p.elf", file)?;
+    files.put("in", input)?;
     let mut out = MemSink::new(alloc, 1000)?;
-    let words = words(alloc, &["run", "p.elf"])?;
+    let words = words(alloc, &["run", "m.toml"])?;
     let ended = host(alloc, &words, &mut files, &mut out);
     assert_eq!(rt; out.bytes(), text);
     assert_eq!(rt; ended.status, status);
-    let plain = interpreted(alloc, file)?;
+    let plain = interpreted(alloc, manifest.as_bytes(), file, input)?;
     assert_eq!(rt; plain.as_slice(), text);
     Ok(())
 }
 
-/// The same for a segment of these words, with these flags.
-pub fn prints_words(
+/// The same for a segment of these words, with these flags, and no input.
+pub fn prints(
     rt: &impl Abort,
     alloc: Global,
+    keys: &str,
     flags: u8,
     words: &[u32],
     status: u8,
     text: &[u8],
 ) -> Result<(), Fail> {
-    let segment = code(alloc, words)?;
-    if segment.len() >= 4096 {
-        return Err(Fail::from("too many words"));
-    }
-    let file = elf(alloc, flags, &segment)?;
-    prints(rt, alloc, &file, status, text)
+    let file = elf_of_words(alloc, flags, words)?;
+    prints_with(rt, alloc, keys, &file, b"", status, text)
 }

@@ -1,12 +1,20 @@
 // Runs with their texts.
-use crate::files::{elf, prints, prints_words};
+use crate::files::{FRAME, elf, elf_of_words, prints, prints_with};
 use std::test::Fail;
 
 #[test]
 fn two_instructions_exit(rt: HostRuntime) -> Result<(), Fail> {
     let words = [0x05d0_0893, 0x0000_0073];
     let text = b"guest g1 exit 0\noutput 0\n\nreport blocks 1\n00010000 1\n";
-    prints_words(&rt, rt.alloc(), 5, &words, 0, text)
+    prints(&rt, rt.alloc(), FRAME, 5, &words, 0, text)
+}
+
+#[test]
+fn one_instruction_of_fuel_ends_the_run(rt: HostRuntime) -> Result<(), Fail> {
+    let words = [0x05d0_0893, 0x0000_0073];
+    let text = b"guest g1 fuel\noutput 0\n\nreport blocks 1\n00010000 1\n";
+    let keys = "max = 16\nfuel = 1\n";
+    prints(&rt, rt.alloc(), keys, 5, &words, 1, text)
 }
 
 #[test]
@@ -20,7 +28,7 @@ fn a_loop_counts_down(rt: HostRuntime) -> Result<(), Fail> {
     ];
     let text =
         b"guest g1 exit 0\noutput 0\n\nreport blocks 3\n00010000 1\n00010004 999\n0001000C 1\n";
-    prints_words(&rt, rt.alloc(), 5, &words, 0, text)
+    prints(&rt, rt.alloc(), FRAME, 5, &words, 0, text)
 }
 
 #[test]
@@ -28,44 +36,44 @@ fn half_a_word_is_not_fetched(rt: HostRuntime) -> Result<(), Fail> {
     let alloc = rt.alloc();
     let text = b"guest g1 fault fetch 00010004\noutput 0\n\nreport blocks 1\n00010000 1\n";
     let file = elf(alloc, 5, &[0x13, 0, 0, 0, 0x73, 0])?;
-    prints(&rt, alloc, &file, 1, text)
+    prints_with(&rt, alloc, FRAME, &file, b"", 1, text)
 }
 
 #[test]
 fn a_misaligned_jump_is_a_fault(rt: HostRuntime) -> Result<(), Fail> {
     let text = b"guest g1 fault misaligned 00010000\noutput 0\n\nreport blocks 1\n00010000 1\n";
-    prints_words(&rt, rt.alloc(), 5, &[0x0060_006f], 1, text)
+    prints(&rt, rt.alloc(), FRAME, 5, &[0x0060_006f], 1, text)
 }
 
 #[test]
 fn an_endless_jump_spends_the_fuel(rt: HostRuntime) -> Result<(), Fail> {
     let text = b"guest g1 fuel\noutput 0\n\nreport blocks 1\n00010000 100000\n";
-    prints_words(&rt, rt.alloc(), 5, &[0x0000_006f], 1, text)
+    prints(&rt, rt.alloc(), FRAME, 5, &[0x0000_006f], 1, text)
 }
 
 #[test]
 fn an_unknown_call_answers_38(rt: HostRuntime) -> Result<(), Fail> {
     let words = [0x0050_0893, 0x0000_0073, 0x05d0_0893, 0x0000_0073];
     let text = b"guest g1 exit 218\noutput 0\n\nreport blocks 2\n00010000 1\n00010008 1\n";
-    prints_words(&rt, rt.alloc(), 5, &words, 0, text)
+    prints(&rt, rt.alloc(), FRAME, 5, &words, 0, text)
 }
 
 #[test]
 fn break_and_illegal_words_are_faults(rt: HostRuntime) -> Result<(), Fail> {
     let alloc = rt.alloc();
     let broken = b"guest g1 fault break 00010000\noutput 0\n\nreport blocks 1\n00010000 1\n";
-    prints_words(&rt, alloc, 5, &[0x0010_0073], 1, broken)?;
+    prints(&rt, alloc, FRAME, 5, &[0x0010_0073], 1, broken)?;
     let illegal = b"guest g1 fault illegal 00010000\noutput 0\n\nreport blocks 1\n00010000 1\n";
-    prints_words(&rt, alloc, 5, &[0x0000_0000], 1, illegal)
+    prints(&rt, alloc, FRAME, 5, &[0x0000_0000], 1, illegal)
 }
 
 #[test]
 fn loads_and_stores_outside_are_faults(rt: HostRuntime) -> Result<(), Fail> {
     let alloc = rt.alloc();
     let load = b"guest g1 fault load 00010000\noutput 0\n\nreport blocks 1\n00010000 1\n";
-    prints_words(&rt, alloc, 5, &[0x0000_2283], 1, load)?;
+    prints(&rt, alloc, FRAME, 5, &[0x0000_2283], 1, load)?;
     let store = b"guest g1 fault store 00010004\noutput 0\n\nreport blocks 1\n00010000 1\n";
-    prints_words(&rt, alloc, 5, &[0x0000_0297, 0x0002_a023], 1, store)
+    prints(&rt, alloc, FRAME, 5, &[0x0000_0297, 0x0002_a023], 1, store)
 }
 
 #[test]
@@ -80,7 +88,101 @@ fn a_store_into_later_words_is_run(rt: HostRuntime) -> Result<(), Fail> {
         0x0020_0513,
     ];
     let text = b"guest g1 exit 2\noutput 0\n\nreport blocks 2\n00010000 1\n0001000C 1\n";
-    prints_words(&rt, rt.alloc(), 7, &words, 0, text)
+    prints(&rt, rt.alloc(), FRAME, 7, &words, 0, text)
+}
+
+#[test]
+fn a_store_into_another_block_is_run(rt: HostRuntime) -> Result<(), Fail> {
+    // The function at 00010020 gives 2, and 1 once its first word is that at 0001001C.
+    let words = [
+        0x0200_00ef,
+        0x0001_02b7,
+        0x01c2_a303,
+        0x0262_a023,
+        0x0100_00ef,
+        0x05d0_0893,
+        0x0000_0073,
+        0x0010_0513,
+        0x0020_0513,
+        0x0000_8067,
+    ];
+    let text =
+        b"guest g1 exit 1\noutput 0\n\nreport blocks 5\n00010000 1\n00010004 1\n00010010 1\n00010014 1\n00010020 2\n";
+    prints(&rt, rt.alloc(), FRAME, 7, &words, 0, text)
+}
+
+#[test]
+fn lines_of_memory_are_counted_by_loads_and_stores(rt: HostRuntime) -> Result<(), Fail> {
+    let words = [
+        0x0001_02b7,
+        0x0182_a303,
+        0x0062_a623,
+        0x0010_0513,
+        0x05d0_0893,
+        0x0000_0073,
+        0x0020_0513,
+    ];
+    let text = b"guest g1 exit 2\noutput 0\n\nreport memory 2\n00010000 load 1\n00010000 store 1\n";
+    let keys = "max = 16\nfuel = 100000\ntool = 'memory'\n";
+    prints(&rt, rt.alloc(), keys, 7, &words, 0, text)
+}
+
+#[test]
+fn calls_are_counted_by_their_targets(rt: HostRuntime) -> Result<(), Fail> {
+    let words = [0x00c0_00ef, 0x05d0_0893, 0x0000_0073, 0x0000_8067];
+    let text = b"guest g1 exit 0\noutput 0\n\nreport calls 1\n0001000C 1\n";
+    let keys = "max = 16\nfuel = 100000\ntool = 'calls'\n";
+    prints(&rt, rt.alloc(), keys, 5, &words, 0, text)
+}
+
+#[test]
+fn an_input_is_read(rt: HostRuntime) -> Result<(), Fail> {
+    let alloc = rt.alloc();
+    let words = [
+        0x0000_0513,
+        0x0001_0593,
+        0x0010_0613,
+        0x03f0_0893,
+        0x0000_0073,
+        0x0001_4283,
+        0x0002_8463,
+        0x0020_0513,
+        0x05d0_0893,
+        0x0000_0073,
+    ];
+    let text =
+        b"guest g1 exit 1\noutput 0\n\nreport blocks 3\n00010000 1\n00010014 1\n00010020 1\n";
+    let keys = "max = 16\nfuel = 100000\ninput = 'in'\n";
+    let file = elf_of_words(alloc, 5, &words)?;
+    prints_with(&rt, alloc, keys, &file, b"\0", 0, text)
+}
+
+#[test]
+fn multiplication_and_division_are_of_the_set_im(rt: HostRuntime) -> Result<(), Fail> {
+    let alloc = rt.alloc();
+    let keys = "max = 16\nfuel = 100000\nisa = 'im'\n";
+    for (first, second, third, status) in [
+        (0x0060_0293, 0x0070_0313, 0x0262_8533, "42"),
+        (0x0060_0293, 0x0000_0013, 0x0202_c533, "255"),
+        (0x8000_02b7, 0xfff0_0313, 0x0262_e533, "0"),
+        (0x0000_0013, 0xfff0_0313, 0x0263_3533, "254"),
+        (0x0000_0013, 0xfff0_0313, 0x0263_2533, "255"),
+    ] {
+        let words = [first, second, third, 0x05d0_0893, 0x0000_0073];
+        let mut text = Vec::from_slice(alloc, b"guest g1 exit ")?;
+        text.extend_from_slice(status.as_bytes())?;
+        text.extend_from_slice(b"\noutput 0\n\nreport blocks 1\n00010000 1\n")?;
+        prints(&rt, alloc, keys, 5, &words, 0, &text)?;
+    }
+    let words = [
+        0x0060_0293,
+        0x0070_0313,
+        0x0262_8533,
+        0x05d0_0893,
+        0x0000_0073,
+    ];
+    let text = b"guest g1 fault illegal 00010008\noutput 0\n\nreport blocks 1\n00010000 1\n";
+    prints(&rt, alloc, FRAME, 5, &words, 1, text)
 }
 
 #[test]
@@ -95,7 +197,7 @@ fn a_guest_that_overwrites_itself_begins_behind_each_store(rt: HostRuntime) -> R
     ];
     let text =
         b"guest g1 exit 0\noutput 0\n\nreport blocks 3\n00010000 1\n0001000C 1\n00010010 1\n";
-    prints_words(&rt, rt.alloc(), 7, &words, 0, text)
+    prints(&rt, rt.alloc(), FRAME, 7, &words, 0, text)
 }
 
 #[test]
@@ -105,13 +207,8 @@ fn a_file_without_segments_is_unplaced(rt: HostRuntime) -> Result<(), Fail> {
     if let Some(kind) = file.get_mut(52) {
         *kind = 4;
     }
-    prints(
-        &rt,
-        alloc,
-        &file,
-        1,
-        b"guest g1 unplaced\noutput 0\n\nreport blocks 0\n",
-    )
+    let text = b"guest g1 unplaced\noutput 0\n\nreport blocks 0\n";
+    prints_with(&rt, alloc, FRAME, &file, b"", 1, text)
 }
 
 #[test]
@@ -125,7 +222,7 @@ fn a_mapped_module_is_not_mapped_again(rt: HostRuntime) -> Result<(), Fail> {
         0x0000_0073,
     ];
     let text = b"guest g1 exit 239\noutput 0\n\nreport blocks 2\n00010000 1\n0001000C 1\n";
-    prints_words(&rt, rt.alloc(), 5, &words, 0, text)
+    prints(&rt, rt.alloc(), FRAME, 5, &words, 0, text)
 }
 
 #[test]
@@ -140,7 +237,7 @@ fn a_number_of_no_module_is_not_mapped(rt: HostRuntime) -> Result<(), Fail> {
         0x0000_0073,
     ];
     let text = b"guest g1 exit 234\noutput 0\n\nreport blocks 2\n00010000 1\n00010010 1\n";
-    prints_words(&rt, rt.alloc(), 5, &words, 0, text)
+    prints(&rt, rt.alloc(), FRAME, 5, &words, 0, text)
 }
 
 #[test]
@@ -155,7 +252,7 @@ fn an_unmapped_module_is_run_no_more(rt: HostRuntime) -> Result<(), Fail> {
         0x0000_0073,
     ];
     let text = b"guest g1 fault fetch 00010010\noutput 0\n\nreport blocks 1\n00010000 1\n";
-    prints_words(&rt, rt.alloc(), 5, &words, 1, text)
+    prints(&rt, rt.alloc(), FRAME, 5, &words, 1, text)
 }
 
 #[test]
@@ -171,7 +268,7 @@ fn a_module_is_replaced_by_its_file_alone(rt: HostRuntime) -> Result<(), Fail> {
         0x0000_0073,
     ];
     let text = b"guest g1 exit 0\noutput 0\n\nreport blocks 2\n00010000 1\n00010010 1\n";
-    prints_words(&rt, alloc, 5, &words, 0, text)?;
+    prints(&rt, alloc, FRAME, 5, &words, 0, text)?;
     let words = [
         0x0000_0513,
         0x0010_0593,
@@ -181,5 +278,5 @@ fn a_module_is_replaced_by_its_file_alone(rt: HostRuntime) -> Result<(), Fail> {
         0x0000_0073,
     ];
     let text = b"guest g1 exit 234\noutput 0\n\nreport blocks 2\n00010000 1\n00010010 1\n";
-    prints_words(&rt, alloc, 5, &words, 0, text)
+    prints(&rt, alloc, FRAME, 5, &words, 0, text)
 }

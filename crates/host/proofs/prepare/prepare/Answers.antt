@@ -1,11 +1,11 @@
-use Rattle.std.proofs.Common.{◌≡◌, ◌≢◌, ◌≤◌, ◌∙◌, ℕ, List, Some, Ok, Err, ap, sym, subst, length}
+use Rattle.std.proofs.Common.{◌≡◌, ◌∙◌, ℕ, List, Ok, Err, ap, sym, subst, length}
 use Rattle.std.specs.Option.{option_to_list}
 use Rattle.std.proofs.lemmas.Result.{err_from_is_err_and}
-use Rattle.manifest.specs.Entries.{Listing, ModuleEntry, GuestEntry}
+use Rattle.manifest.specs.Entries.{Listing}
 use Rattle.manifest.specs.Manifest.{manifest_of}
 use Rattle.host_text.specs.declared.cause.Cause.TheVariants as causes
 use Rattle.host.specs.Answer.{IsRunOf}
-use Rattle.host.specs.Outcome.{Agrees, Source, listed, alone, programs_of}
+use Rattle.host.specs.Outcome.{Source, listed, programs_of}
 use Rattle.host.specs.Reading.{AreRead, Fails}
 use Rattle.host.specs.Seen.{source_of}
 use Rattle.host.proofs.Sources.{IsPart, first_part, middle_part, last_part, kept_on, less_on, agrees_too, read_too, fails_too, read_count}
@@ -27,7 +27,7 @@ returns-in_err-manifest-clause-refused g c =
     let p = err_from_is_err_and c.from_residual-in_err-manifest.result c.from_residual-in_err-manifest.ensures.1 in
     let text : List ℕ = c.in_ok-text.text in
     let has : HasText c.args.words.now (source_of g.F.Files.content g.F.Files.faults c.args.files.now c.read_file.new.files) text =
-        record { name = c.in-Some.name.now; some = c.in-Some.ensures.some; agrees = c.in_ok-text.ensures.agrees } in
+    record { name = c.in-Some.name.now; some = c.in-Some.ensures.some; agrees = c.in_ok-text.ensures.agrees } in
     rw (p.1, p.2) (λ other. refuses_listing c.args.words.now _ text c.in_err-manifest.field-0.0 has
     (subst (λ t. listed (manifest_of t) ≡ Err c.in_err-manifest.field-0.0) c.items.ensures (h other)))
 
@@ -35,7 +35,7 @@ pub returns-in_default-alone-clause-refused : goal.returns-in_default-alone-clau
 returns-in_default-alone-clause-refused g c = λ other.
     let text : List ℕ = c.in_ok-text.text in
     let has : HasText c.args.words.now (source_of g.F.Files.content g.F.Files.faults c.args.files.now c.read_file.new.files) text =
-        record { name = c.in-Some.name.now; some = c.in-Some.ensures.some; agrees = c.in_ok-text.ensures.agrees } in
+    record { name = c.in-Some.name.now; some = c.in-Some.ensures.some; agrees = c.in_ok-text.ensures.agrees } in
     refuses_alone c.args.words.now _ text c.in_ok-manifest.manifest causes.Unbuilt has
     (subst (λ t. listed (manifest_of t) ≡ Ok c.in_ok-manifest.manifest) c.items.ensures c.in_ok-manifest.ensures)
     (c.alone.ensures.none c.in_default-alone.is)
@@ -46,9 +46,9 @@ returns-in_err-contents-clause-refused g c =
     let p = err_from_is_err_and c.from_residual-in_err-contents.result c.from_residual-in_err-contents.ensures.1 in
     let whole : Source = source_of g.F.Files.content g.F.Files.faults c.args.files.now c.read_all.new.files in
     let before : IsPart whole (source_of g.F.Files.content g.F.Files.faults c.args.files.now c.read_file.new.files) =
-        first_part g.F.Files.content g.F.Files.faults c.args.files.now c.read_file.new.files c.read_all.new.files c.read_file.ensures.never_falls c.read_all.ensures.never_falls in
+    first_part g.F.Files.content g.F.Files.faults c.args.files.now c.read_file.new.files c.read_all.new.files c.read_file.ensures.never_falls c.read_all.ensures.never_falls in
     let behind : IsPart whole (source_of g.F.Files.content g.F.Files.faults c.read_file.new.files c.read_all.new.files) =
-        last_part g.F.Files.content g.F.Files.faults c.args.files.now c.read_file.new.files c.read_all.new.files c.read_file.ensures.kept c.read_file.ensures.never_falls c.read_all.ensures.never_falls in
+    last_part g.F.Files.content g.F.Files.faults c.args.files.now c.read_file.new.files c.read_all.new.files c.read_file.ensures.kept c.read_file.ensures.never_falls c.read_all.ensures.never_falls in
     let text : List ℕ = c.in_ok-text.text in
     let listing : Listing = c.in_ok-manifest.manifest in
     let one : HasOne c.args.words.now whole listing (c.in-Some-alone.module.now, c.in-Some-alone.guest.now) = record {
@@ -66,11 +66,11 @@ returns-in_err-input-clause-refused g c =
     let p = err_from_is_err_and c.from_residual-in_err-input.result c.from_residual-in_err-input.ensures.1 in
     let whole : Source = source_of g.F.Files.content g.F.Files.faults c.args.files.now c.read_input.new.files in
     let before : IsPart whole (source_of g.F.Files.content g.F.Files.faults c.args.files.now c.read_file.new.files) =
-        first_part g.F.Files.content g.F.Files.faults c.args.files.now c.read_file.new.files c.read_input.new.files c.read_file.ensures.never_falls
-        (less_on g.F.Files.faults c.read_file.new.files c.read_all.new.files c.read_input.new.files c.read_all.ensures.never_falls c.read_input.ensures.never_falls) in
+    first_part g.F.Files.content g.F.Files.faults c.args.files.now c.read_file.new.files c.read_input.new.files c.read_file.ensures.never_falls
+    (less_on g.F.Files.faults c.read_file.new.files c.read_all.new.files c.read_input.new.files c.read_all.ensures.never_falls c.read_input.ensures.never_falls) in
     let between : IsPart whole (source_of g.F.Files.content g.F.Files.faults c.read_file.new.files c.read_all.new.files) =
-        middle_part g.F.Files.content g.F.Files.faults c.args.files.now c.read_file.new.files c.read_all.new.files c.read_input.new.files
-        c.read_file.ensures.kept c.read_file.ensures.never_falls c.read_all.ensures.never_falls c.read_input.ensures.never_falls in
+    middle_part g.F.Files.content g.F.Files.faults c.args.files.now c.read_file.new.files c.read_all.new.files c.read_input.new.files
+    c.read_file.ensures.kept c.read_file.ensures.never_falls c.read_all.ensures.never_falls c.read_input.ensures.never_falls in
     let text : List ℕ = c.in_ok-text.text in
     let listing : Listing = c.in_ok-manifest.manifest in
     let one : HasOne c.args.words.now whole listing (c.in-Some-alone.module.now, c.in-Some-alone.guest.now) = record {
@@ -80,12 +80,12 @@ returns-in_err-input-clause-refused g c =
       alone = c.in-Some-alone.ensures.some;
     } in
     let all : AreRead whole 4194304 listing.files c.in_ok-contents.contents.items =
-        subst (λ names. AreRead whole 4194304 names c.in_ok-contents.contents.items) c.files.ensures.files
-        (read_too whole _ 4194304 c.files.result.now c.in_ok-contents.contents.items between c.in_ok-contents.ensures.read) in
+    subst (λ names. AreRead whole 4194304 names c.in_ok-contents.contents.items) c.files.ensures.files
+    (read_too whole _ 4194304 c.files.result.now c.in_ok-contents.contents.items between c.in_ok-contents.ensures.read) in
     let behind : IsPart whole (source_of g.F.Files.content g.F.Files.faults c.read_all.new.files c.read_input.new.files) =
-        last_part g.F.Files.content g.F.Files.faults c.args.files.now c.read_all.new.files c.read_input.new.files
-        (kept_on g.F.Files.content c.args.files.now c.read_file.new.files c.read_all.new.files c.read_file.ensures.kept c.read_all.ensures.kept)
-        (less_on g.F.Files.faults c.args.files.now c.read_file.new.files c.read_all.new.files c.read_file.ensures.never_falls c.read_all.ensures.never_falls) c.read_input.ensures.never_falls in
+    last_part g.F.Files.content g.F.Files.faults c.args.files.now c.read_all.new.files c.read_input.new.files
+    (kept_on g.F.Files.content c.args.files.now c.read_file.new.files c.read_all.new.files c.read_file.ensures.kept c.read_all.ensures.kept)
+    (less_on g.F.Files.faults c.args.files.now c.read_file.new.files c.read_all.new.files c.read_file.ensures.never_falls c.read_all.ensures.never_falls) c.read_input.ensures.never_falls in
     rw (p.1, p.2) (λ other. refuses_input c.args.words.now whole listing _ c.in_ok-contents.contents.items c.in_err-input.field-0.0 one all
     (fails_too whole _ 1048576 (option_to_list c.in-Some-alone.guest.now.input) c.in_err-input.field-0.0 behind h.failed))
 
@@ -101,11 +101,11 @@ returns-in_err-elfs-clause-refused g c =
     let p = err_from_is_err_and c.from_residual-in_err-elfs.result c.from_residual-in_err-elfs.ensures.1 in
     let whole : Source = source_of g.F.Files.content g.F.Files.faults c.args.files.now c.read_input.new.files in
     let before : IsPart whole (source_of g.F.Files.content g.F.Files.faults c.args.files.now c.read_file.new.files) =
-        first_part g.F.Files.content g.F.Files.faults c.args.files.now c.read_file.new.files c.read_input.new.files c.read_file.ensures.never_falls
-        (less_on g.F.Files.faults c.read_file.new.files c.read_all.new.files c.read_input.new.files c.read_all.ensures.never_falls c.read_input.ensures.never_falls) in
+    first_part g.F.Files.content g.F.Files.faults c.args.files.now c.read_file.new.files c.read_input.new.files c.read_file.ensures.never_falls
+    (less_on g.F.Files.faults c.read_file.new.files c.read_all.new.files c.read_input.new.files c.read_all.ensures.never_falls c.read_input.ensures.never_falls) in
     let between : IsPart whole (source_of g.F.Files.content g.F.Files.faults c.read_file.new.files c.read_all.new.files) =
-        middle_part g.F.Files.content g.F.Files.faults c.args.files.now c.read_file.new.files c.read_all.new.files c.read_input.new.files
-        c.read_file.ensures.kept c.read_file.ensures.never_falls c.read_all.ensures.never_falls c.read_input.ensures.never_falls in
+    middle_part g.F.Files.content g.F.Files.faults c.args.files.now c.read_file.new.files c.read_all.new.files c.read_input.new.files
+    c.read_file.ensures.kept c.read_file.ensures.never_falls c.read_all.ensures.never_falls c.read_input.ensures.never_falls in
     let text : List ℕ = c.in_ok-text.text in
     let listing : Listing = c.in_ok-manifest.manifest in
     let one : HasOne c.args.words.now whole listing (c.in-Some-alone.module.now, c.in-Some-alone.guest.now) = record {
@@ -115,14 +115,14 @@ returns-in_err-elfs-clause-refused g c =
       alone = c.in-Some-alone.ensures.some;
     } in
     let all : AreRead whole 4194304 listing.files c.in_ok-contents.contents.items =
-        subst (λ names. AreRead whole 4194304 names c.in_ok-contents.contents.items) c.files.ensures.files
-        (read_too whole _ 4194304 c.files.result.now c.in_ok-contents.contents.items between c.in_ok-contents.ensures.read) in
+    subst (λ names. AreRead whole 4194304 names c.in_ok-contents.contents.items) c.files.ensures.files
+    (read_too whole _ 4194304 c.files.result.now c.in_ok-contents.contents.items between c.in_ok-contents.ensures.read) in
     let behind : IsPart whole (source_of g.F.Files.content g.F.Files.faults c.read_all.new.files c.read_input.new.files) =
-        last_part g.F.Files.content g.F.Files.faults c.args.files.now c.read_all.new.files c.read_input.new.files
-        (kept_on g.F.Files.content c.args.files.now c.read_file.new.files c.read_all.new.files c.read_file.ensures.kept c.read_all.ensures.kept)
-        (less_on g.F.Files.faults c.args.files.now c.read_file.new.files c.read_all.new.files c.read_file.ensures.never_falls c.read_all.ensures.never_falls) c.read_input.ensures.never_falls in
+    last_part g.F.Files.content g.F.Files.faults c.args.files.now c.read_all.new.files c.read_input.new.files
+    (kept_on g.F.Files.content c.args.files.now c.read_file.new.files c.read_all.new.files c.read_file.ensures.kept c.read_all.ensures.kept)
+    (less_on g.F.Files.faults c.args.files.now c.read_file.new.files c.read_all.new.files c.read_file.ensures.never_falls c.read_all.ensures.never_falls) c.read_input.ensures.never_falls in
     let given : AreRead whole 1048576 (option_to_list c.in-Some-alone.guest.now.input) c.in_ok-input.input.items =
-        read_too whole _ 1048576 (option_to_list c.in-Some-alone.guest.now.input) c.in_ok-input.input.items behind c.in_ok-input.ensures.read in
+    read_too whole _ 1048576 (option_to_list c.in-Some-alone.guest.now.input) c.in_ok-input.input.items behind c.in_ok-input.ensures.read in
     rw (p.1, p.2) (λ other. refuses_elf c.args.words.now whole listing _ c.in_ok-contents.contents.items c.in_ok-input.input.items c.in_err-elfs.field-0.0 one all given
     (subst (λ names. programs_of names c.in_ok-contents.contents.items ≡ Err c.in_err-elfs.field-0.0) c.files-2.ensures.files
     (subst (λ files. programs_of c.files-2.result.now files ≡ Err c.in_err-elfs.field-0.0) c.deref.ensures.value (h.gives other))))
@@ -131,11 +131,11 @@ pub returns-clause-done : goal.returns-clause-done
 returns-clause-done g c =
     let whole : Source = source_of g.F.Files.content g.F.Files.faults c.args.files.now c.read_input.new.files in
     let before : IsPart whole (source_of g.F.Files.content g.F.Files.faults c.args.files.now c.read_file.new.files) =
-        first_part g.F.Files.content g.F.Files.faults c.args.files.now c.read_file.new.files c.read_input.new.files c.read_file.ensures.never_falls
-        (less_on g.F.Files.faults c.read_file.new.files c.read_all.new.files c.read_input.new.files c.read_all.ensures.never_falls c.read_input.ensures.never_falls) in
+    first_part g.F.Files.content g.F.Files.faults c.args.files.now c.read_file.new.files c.read_input.new.files c.read_file.ensures.never_falls
+    (less_on g.F.Files.faults c.read_file.new.files c.read_all.new.files c.read_input.new.files c.read_all.ensures.never_falls c.read_input.ensures.never_falls) in
     let between : IsPart whole (source_of g.F.Files.content g.F.Files.faults c.read_file.new.files c.read_all.new.files) =
-        middle_part g.F.Files.content g.F.Files.faults c.args.files.now c.read_file.new.files c.read_all.new.files c.read_input.new.files
-        c.read_file.ensures.kept c.read_file.ensures.never_falls c.read_all.ensures.never_falls c.read_input.ensures.never_falls in
+    middle_part g.F.Files.content g.F.Files.faults c.args.files.now c.read_file.new.files c.read_all.new.files c.read_input.new.files
+    c.read_file.ensures.kept c.read_file.ensures.never_falls c.read_all.ensures.never_falls c.read_input.ensures.never_falls in
     let text : List ℕ = c.in_ok-text.text in
     let listing : Listing = c.in_ok-manifest.manifest in
     let one : HasOne c.args.words.now whole listing (c.in-Some-alone.module.now, c.in-Some-alone.guest.now) = record {
@@ -145,17 +145,21 @@ returns-clause-done g c =
       alone = c.in-Some-alone.ensures.some;
     } in
     let all : AreRead whole 4194304 listing.files c.in_ok-contents.contents.items =
-        subst (λ names. AreRead whole 4194304 names c.in_ok-contents.contents.items) c.files.ensures.files
-        (read_too whole _ 4194304 c.files.result.now c.in_ok-contents.contents.items between c.in_ok-contents.ensures.read) in
+    subst (λ names. AreRead whole 4194304 names c.in_ok-contents.contents.items) c.files.ensures.files
+    (read_too whole _ 4194304 c.files.result.now c.in_ok-contents.contents.items between c.in_ok-contents.ensures.read) in
     let behind : IsPart whole (source_of g.F.Files.content g.F.Files.faults c.read_all.new.files c.read_input.new.files) =
-        last_part g.F.Files.content g.F.Files.faults c.args.files.now c.read_all.new.files c.read_input.new.files
-        (kept_on g.F.Files.content c.args.files.now c.read_file.new.files c.read_all.new.files c.read_file.ensures.kept c.read_all.ensures.kept)
-        (less_on g.F.Files.faults c.args.files.now c.read_file.new.files c.read_all.new.files c.read_file.ensures.never_falls c.read_all.ensures.never_falls) c.read_input.ensures.never_falls in
+    last_part g.F.Files.content g.F.Files.faults c.args.files.now c.read_all.new.files c.read_input.new.files
+    (kept_on g.F.Files.content c.args.files.now c.read_file.new.files c.read_all.new.files c.read_file.ensures.kept c.read_all.ensures.kept)
+    (less_on g.F.Files.faults c.args.files.now c.read_file.new.files c.read_all.new.files c.read_file.ensures.never_falls c.read_all.ensures.never_falls) c.read_input.ensures.never_falls in
     let given : AreRead whole 1048576 (option_to_list c.in-Some-alone.guest.now.input) c.in_ok-input.input.items =
-        read_too whole _ 1048576 (option_to_list c.in-Some-alone.guest.now.input) c.in_ok-input.input.items behind c.in_ok-input.ensures.read in
-    let (end, told, how, run) = c.in_ok-run.ensures in
-    (end, told, how, runs_plan c.args.words.now whole listing _ c.in_ok-contents.contents.items c.in_ok-input.input.items c.in_ok-elfs.elfs.items end c.in_ok-run.field-0.text.items one all given
-    (subst (λ names. programs_of names c.in_ok-contents.contents.items ≡ Ok c.in_ok-elfs.elfs.items) c.files-2.ensures.files
-    (subst (λ files. programs_of c.files-2.result.now files ≡ Ok c.in_ok-elfs.elfs.items) c.deref.ensures.value c.in_ok-elfs.ensures.gives))
-    (subst (λ ps. IsRunOf (record { one = c.in-Some-alone.module.now; guest = c.in-Some-alone.guest.now; programs = ps; inputs = c.in_ok-input.input.items }) end c.in_ok-run.field-0.text.items)
-    c.deref-2.ensures.value run))
+    read_too whole _ 1048576 (option_to_list c.in-Some-alone.guest.now.input) c.in_ok-input.input.items behind c.in_ok-input.ensures.read in
+    let (end, told, how, run) = c.in_ok-run.ensures in (
+      end,
+      told,
+      how,
+      runs_plan c.args.words.now whole listing _ c.in_ok-contents.contents.items c.in_ok-input.input.items c.in_ok-elfs.elfs.items end c.in_ok-run.field-0.text.items one all given
+          (subst (λ names. programs_of names c.in_ok-contents.contents.items ≡ Ok c.in_ok-elfs.elfs.items) c.files-2.ensures.files
+          (subst (λ files. programs_of c.files-2.result.now files ≡ Ok c.in_ok-elfs.elfs.items) c.deref.ensures.value c.in_ok-elfs.ensures.gives))
+          (subst (λ ps. IsRunOf (record { one = c.in-Some-alone.module.now; guest = c.in-Some-alone.guest.now; programs = ps; inputs = c.in_ok-input.input.items }) end c.in_ok-run.field-0.text.items)
+          c.deref-2.ensures.value run),
+    )

@@ -1,10 +1,8 @@
-use Rattle.std.proofs.Common.{◌≡◌, ◌≤◌, ◌<◌, ◌∙◌, ℕ, List, Err, Ok, ap, sym, subst, arith, length, refl}
+use Rattle.std.proofs.Common.{◌≤◌, ◌<◌, ◌∙◌, Err, Ok, subst, arith, length, refl}
 use Rattle.std.proofs.lemmas.List.{take_all}
 use Rattle.std.proofs.lemmas.Result.{err_from_is_err_and}
-use Rattle.outside.specs.Told.{Told}
-use Rattle.host_text.specs.declared.cause.Cause.{Cause}
 use Rattle.host.specs.Outcome.{Agrees, Source}
-use Rattle.host.specs.Reading.{AreRead, Fails}
+use Rattle.host.specs.Reading.{AreRead}
 use Rattle.host.specs.Seen.{source_of}
 use Rattle.host.proofs.Sources.{IsPart, first_part, last_part, kept_on, less_on, agrees_too, read_too, read_more, fails_at, read_none}
 use Rattle.host.proofs.reading.read_all.Goals as goal

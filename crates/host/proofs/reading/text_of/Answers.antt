@@ -2,7 +2,6 @@ use Rattle.std.proofs.Common.{◌≡◌, ℕ, List, length, nat_le, true, false,
 use Rattle.std.specs.List.{list_all}
 use Rattle.std.specs.Str.{is_utf8}
 use Rattle.std.proofs.lemmas.Str.{IsUtf8-from_is_utf8}
-use Rattle.manifest.specs.Names.{is_file_name}
 use Rattle.host.proofs.reading.text_of.Goals as goal
 
 last_true : (a b c d : Bool) → (a && b && c && d) ≡ true → d ≡ true

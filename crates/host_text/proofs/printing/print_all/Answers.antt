@@ -18,9 +18,9 @@ pub loop-text-preserved : goal.loop-text-preserved
 loop-text-preserved g c =
     let within : c.loop-text.text-index < length c.args.texts.now = omega (arith, c.loop-text-test.true, c.loop-text.auto.text-index-end) in
     record {
-  written = written_piece (λ text. text.now) c.args.texts.now c.loop-text.text-index _ _ _ _ within c.loop-text.invariant.written c.in_ok-print.ensures.whole;
-  no_less = omega (arith, c.loop-text.invariant.no_less, c.in_ok-print.ensures.never_falls);
-}
+      written = written_piece (λ text. text.now) c.args.texts.now c.loop-text.text-index _ _ _ _ within c.loop-text.invariant.written c.in_ok-print.ensures.whole;
+      no_less = omega (arith, c.loop-text.invariant.no_less, c.in_ok-print.ensures.never_falls);
+    }
 
 pub returns-clause-whole : goal.returns-clause-whole
 returns-clause-whole g c =
