@@ -12,6 +12,8 @@ mod raw;
 mod shared;
 mod slot;
 mod spelling;
+#[cfg(test)]
+mod tests;
 mod union;
 mod unit;
 

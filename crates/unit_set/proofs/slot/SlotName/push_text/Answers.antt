@@ -1,4 +1,3 @@
-use Rattle.std.proofs.Common.{◌≡◌, ap, ◌∙◌}
 use Rattle.unit_set.specs.Slot.{Slot}
 use Rattle.unit_set.proofs.SlotText.{parts_joined}
 use Rattle.unit_set.proofs.slot.SlotName.push_text.Goals as goal
