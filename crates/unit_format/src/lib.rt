@@ -12,6 +12,8 @@ mod fragments;
 mod header;
 pub mod laws;
 mod reading;
+#[cfg(test)]
+mod tests;
 mod writing;
 
 pub use error::TextErr;
