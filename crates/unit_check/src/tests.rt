@@ -1,8 +1,11 @@
 use super::*;
+use cc_base::CodeView;
+use fragment::{Exit, Fragment, Probe, same_as_built};
+use probe_tools::ProbeKind;
 use std::alloc::Global;
 use std::test::Fail;
 use unit_format::{read_unit, write_unit};
-use unit_set::SlotName;
+use unit_set::{Joined, SlotName, Unit};
 
 // The unit of `two-instructions` with its one block, in version 1.
 const ONE: [u8; 68] = [
@@ -109,5 +112,71 @@ fn im_unit_not_fresh(rt: HostRuntime) -> Result<(), Fail> {
     let slot = slot_of(alloc, b"main.0.00000000.blocks.16.im")?;
     let want = Some(AdmitErr::NotFresh(0x1_0000));
     assert_eq!(rt; refusal(alloc, &MUL, &slot), want);
+    Ok(())
+}
+
+// One jump to the next word, with its link, in version 2.
+fn push_jump(out: &mut Vec<u8>, addr: u32, link: u32) -> Result<(), Fail> {
+    out.extend_from_slice(&addr.to_le_bytes())?;
+    out.extend_from_slice(&[1, 0, 1, 0, 0, 0, 1, 0])?;
+    out.extend_from_slice(&addr.wrapping_add(4).to_le_bytes())?;
+    out.extend_from_slice(&link.to_le_bytes())?;
+    Ok(())
+}
+
+// A text with the first 16,384 addresses of an image of 16,385 such jumps.
+fn full_text(alloc: Global) -> Result<Vec<u8>, Fail> {
+    let mut out = Vec::new(alloc);
+    out.extend_from_slice(b"CCU2")?;
+    out.extend_from_slice(&[0, 25])?;
+    out.extend_from_slice(b"main.0.00000000.blocks.16")?;
+    out.extend_from_slice(&0x1_0000_u32.to_le_bytes())?;
+    out.extend_from_slice(&65_540_u32.to_le_bytes())?;
+    for _ in 0..16_385_u32 {
+        out.extend_from_slice(&[0x6f, 0, 0x40, 0])?;
+    }
+    out.extend_from_slice(&16_384_u32.to_le_bytes())?;
+    for i in 0..16_383_u32 {
+        push_jump(&mut out, 0x1_0000 + 4 * i, i + 1)?;
+    }
+    push_jump(&mut out, 0x1_fffc, 0xffff_ffff)?;
+    Ok(out)
+}
+
+// The unit with one fragment more; none where it is not fresh.
+fn join_one(alloc: Global, unit: &Unit, frag: Fragment) -> Result<Option<Joined>, Fail> {
+    let slot = unit.slot();
+    let image = unit.image();
+    let code = CodeView {
+        start: image.start,
+        bytes: image.bytes.items(),
+    };
+    if !same_as_built(&frag, code, slot.isa, slot.tool, slot.max) {
+        return Ok(None);
+    }
+    Ok(Some(unit.join(alloc, &[frag])?))
+}
+
+fn last_jump(alloc: Global) -> Result<Fragment, Fail> {
+    let begin = Probe {
+        place: 0,
+        kind: ProbeKind::Block,
+    };
+    let exits = [Exit::Direct(0x2_0004)];
+    Ok(Fragment::of(alloc, 0x2_0000, &[0x0040_006f], &[begin], &exits)?)
+}
+
+#[test]
+fn full_unit(rt: HostRuntime) -> Result<(), Fail> {
+    let alloc = rt.alloc();
+    let slot = slot_of(alloc, b"main.0.00000000.blocks.16")?;
+    let raw = read_unit(alloc, &full_text(alloc)?);
+    let unit = admit(alloc, raw.ok().ok_or("not read")?, &slot);
+    let unit = unit.ok().ok_or("not admitted")?;
+    assert_eq!(rt; unit.len(), 16_384);
+    match join_one(alloc, &unit, last_jump(alloc)?)? {
+        Some(Joined::Full(n)) => assert_eq!(rt; n, 16_385),
+        _ => assert!(rt; false, "it is not full"),
+    }
     Ok(())
 }
