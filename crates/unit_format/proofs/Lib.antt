@@ -1,0 +1,11 @@
+pub mod Loop
+pub mod Words
+pub mod Fields
+pub mod FragmentLaws
+pub mod UnitLaws
+pub mod WritingLaws
+pub mod Blocks
+pub mod RawLaws
+pub mod Following
+pub mod RefusalLaws
+pub mod Lengths

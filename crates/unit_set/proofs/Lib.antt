@@ -1,0 +1,5 @@
+pub mod SlotText
+pub mod SlotFields
+pub mod SlotLaws
+pub mod Unions
+pub mod Merging

@@ -1,0 +1,9 @@
+pub mod Slot
+pub mod Naming
+pub mod Fields
+pub mod Sets
+pub mod Next
+pub mod Raw
+pub mod Held
+pub mod Join
+pub mod Laws
