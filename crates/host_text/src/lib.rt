@@ -7,9 +7,11 @@
 mod cause;
 mod printing;
 mod refusals;
+#[cfg(test)]
+mod tests;
 mod text;
 
 pub use cause::{Cause, status_of};
-pub use printing::{print, print_five};
+pub use printing::print;
 pub use refusals::refuse;
 pub use text::text_of;

@@ -224,5 +224,9 @@ fn a_sink_that_fails_keeps_a_front(rt: HostRuntime) -> Result<(), Fail> {
     assert_eq!(rt; ended.status, 7);
     assert_eq!(rt; out.bytes(), b"guest g1 e".as_slice());
     assert_eq!(rt; ended.guests.len(), 1);
+    let Some(guest) = ended.guests.first() else {
+        return Err(Fail::from("no guest"));
+    };
+    assert_eq!(rt; guest.maps.items(), &[0]);
     Ok(())
 }
