@@ -50,10 +50,15 @@ fn refusal(alloc: Global, text: &[u8], slot: &SlotName) -> Option<AdmitErr> {
     }
 }
 
+// The unit of a text.
+fn admitted(alloc: Global, text: &[u8], slot: &SlotName) -> Result<Unit, Fail> {
+    let raw = read_unit(alloc, text).ok().ok_or("not read")?;
+    Ok(admit(alloc, raw, slot).ok().ok_or("not admitted")?)
+}
+
 // What is written of the unit of a text.
 fn written(alloc: Global, text: &[u8], slot: &SlotName) -> Result<Vec<u8>, Fail> {
-    let raw = read_unit(alloc, text).ok().ok_or("not read")?;
-    let unit = admit(alloc, raw, slot).ok().ok_or("not admitted")?;
+    let unit = admitted(alloc, text, slot)?;
     let mut out = Vec::new(alloc);
     write_unit(&unit, &mut out)?;
     Ok(out)
@@ -68,11 +73,17 @@ fn both_versions_are_admitted(rt: HostRuntime) -> Result<(), Fail> {
     Ok(())
 }
 
-// The text with this byte at each place from `from` on, below `to`.
-fn changed(alloc: Global, text: &[u8], from: usize, to: usize, byte: u8) -> Result<Vec<u8>, Fail> {
+// The text with this byte at each place from `from` to `last`.
+fn changed(
+    alloc: Global,
+    text: &[u8],
+    from: usize,
+    last: usize,
+    byte: u8,
+) -> Result<Vec<u8>, Fail> {
     let mut out = Vec::new(alloc);
     for (i, b) in text.iter().enumerate() {
-        out.push(if from <= i && i < to { byte } else { *b })?;
+        out.push(if from <= i && i <= last { byte } else { *b })?;
     }
     Ok(out)
 }
@@ -90,7 +101,7 @@ fn damaged_area_bytes(rt: HostRuntime) -> Result<(), Fail> {
         (57, 1, stale),
         (60, 0xc, stale),
     ] {
-        let text = changed(alloc, &ONE, at, at + 1, byte)?;
+        let text = changed(alloc, &ONE, at, at, byte)?;
         assert_eq!(rt; refusal(alloc, &text, &slot), want, "at {at}");
     }
     Ok(())
@@ -100,7 +111,7 @@ fn damaged_area_bytes(rt: HostRuntime) -> Result<(), Fail> {
 fn damaged_area(rt: HostRuntime) -> Result<(), Fail> {
     let alloc = rt.alloc();
     let slot = slot_of(alloc, b"main.0.00000000.blocks.16")?;
-    let text = changed(alloc, &ONE, 64, 68, 0)?;
+    let text = changed(alloc, &ONE, 64, 67, 0)?;
     let want = Some(AdmitErr::BadLink(0x1_0000, 0));
     assert_eq!(rt; refusal(alloc, &text, &slot), want);
     Ok(())
@@ -170,9 +181,7 @@ fn last_jump(alloc: Global) -> Result<Fragment, Fail> {
 fn full_unit(rt: HostRuntime) -> Result<(), Fail> {
     let alloc = rt.alloc();
     let slot = slot_of(alloc, b"main.0.00000000.blocks.16")?;
-    let raw = read_unit(alloc, &full_text(alloc)?);
-    let unit = admit(alloc, raw.ok().ok_or("not read")?, &slot);
-    let unit = unit.ok().ok_or("not admitted")?;
+    let unit = admitted(alloc, &full_text(alloc)?, &slot)?;
     assert_eq!(rt; unit.len(), 16_384);
     match join_one(alloc, &unit, last_jump(alloc)?)? {
         Some(Joined::Full(n)) => assert_eq!(rt; n, 16_385),

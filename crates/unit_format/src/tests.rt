@@ -63,11 +63,11 @@ fn both_versions_are_read(rt: HostRuntime) -> Result<(), Fail> {
     Ok(())
 }
 
-// The text with this byte at each place from `from` on, below `to`.
-fn changed(alloc: Global, text: &[u8], from: usize, to: usize, byte: u8) -> Result<Vec<u8>, Fail> {
+// The text with this byte at a place.
+fn changed(alloc: Global, text: &[u8], at: usize, byte: u8) -> Result<Vec<u8>, Fail> {
     let mut out = Vec::new(alloc);
     for (i, b) in text.iter().enumerate() {
-        out.push(if from <= i && i < to { byte } else { *b })?;
+        out.push(if i == at { byte } else { *b })?;
     }
     Ok(out)
 }
@@ -88,7 +88,7 @@ fn damaged_area_bytes(rt: HostRuntime) -> Result<(), Fail> {
         (56, 2, TextErr::Field(0)),
         (59, 3, TextErr::Field(0)),
     ] {
-        let text = changed(alloc, &ONE, at, at + 1, byte)?;
+        let text = changed(alloc, &ONE, at, byte)?;
         assert_eq!(rt; refusal(alloc, &text), Some(want), "at {at}");
     }
     Ok(())

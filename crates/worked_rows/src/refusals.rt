@@ -227,6 +227,6 @@ fn a_sink_that_fails_keeps_a_front(rt: HostRuntime) -> Result<(), Fail> {
     let Some(guest) = ended.guests.first() else {
         return Err(Fail::from("no guest"));
     };
-    assert_eq!(rt; guest.maps.items(), &[0]);
+    assert_eq!(rt; guest.maps.items(), [0].as_slice());
     Ok(())
 }
