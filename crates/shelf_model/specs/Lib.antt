@@ -1,0 +1,5 @@
+pub mod Shelf
+pub mod Faults
+pub mod Calls
+pub mod Disk
+pub mod Fuse
