@@ -2,4 +2,6 @@ pub mod Shelf
 pub mod Faults
 pub mod Calls
 pub mod Disk
-pub mod Fuse
+pub mod Crash
+pub mod MemShelf
+pub mod FuseShelf

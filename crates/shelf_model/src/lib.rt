@@ -6,10 +6,9 @@
 #![tactic(auto)]
 
 pub mod fuse;
-pub mod laws;
 pub mod memory;
 pub mod shelf;
 
 pub use fuse::FuseShelf;
-pub use memory::{Call, MemShelf};
+pub use memory::{Action, Call, MemShelf};
 pub use shelf::{Area, Shelf, ShelfErr, store};
