@@ -6,6 +6,7 @@
 #![tactic(auto)]
 
 pub mod fuse;
+pub mod laws;
 pub mod memory;
 pub mod shelf;
 
