@@ -99,13 +99,24 @@ impl MemShelf {
         Ok(())
     }
 
-    /// Makes these the synced bytes of an area.
-    pub fn put(&mut self, name: &[u8], area: Area, bytes: &[u8]) -> Result<(), AllocError>
-        ensures noted { OnOk result (calls_of self.new ≡ calls_of self.old ++ record { name = name.now; area = area; action = Action.Put bytes.now } ∷ []) }
+    // Adds bytes that are put to the record.
+    fn note_put(&mut self, name: &[u8], area: Area, bytes: &[u8]) -> Result<(), AllocError>
+        ensures ok { OnOk result (calls_of self.new ≡ calls_of self.old ++ record { name = name.now; area = area; action = Action.Put bytes.now } ∷ []) }
         ensures err { OnErr result (calls_of self.new ≡ calls_of self.old) }
     {
         let bytes = Blob::of(self.alloc, bytes)?;
         self.note(name, area, Action::Put(bytes))
+    }
+
+    /// Makes these the synced bytes of an area. It counts as a call.
+    pub fn put(&mut self, name: &[u8], area: Area, bytes: &[u8]) -> Result<(), AllocError>
+        ensures told { OnOk result (shelf_told self.new name.now area ≡ Some bytes.now) }
+        ensures synced { OnOk result (Leaves (shelf_images self.new) (shelf_moment self.new) name.now area bytes.now) }
+        ensures others { TellsOthers (shelf_told self.old) (shelf_told self.new) name.now area }
+        ensures noted { OnOk result (calls_of self.new ≡ calls_of self.old ++ record { name = name.now; area = area; action = Action.Put bytes.now } ∷ []) }
+        ensures unnoted { OnErr result (calls_of self.new ≡ calls_of self.old) }
+    {
+        self.note_put(name, area, bytes)
     }
 
     /// The image in which each area has its synced bytes and the first `whole` of the writes that were done since. It is
