@@ -7,7 +7,7 @@ use Rattle.std.proofs.Math.Nat.{eq-or-lt_of_le}
 use Rattle.shelf_model.specs.declared.shelf.Area.{Area}
 use Rattle.shelf_model.specs.declared.memory.Call.{Call}
 use Rattle.shelf_model.specs.declared.memory.Action.{Action}
-use Rattle.shelf_model.specs.declared.memory.Action.TheVariants.{Write, Tried, Sync}
+use Rattle.shelf_model.specs.declared.memory.Action.TheVariants.{Put, Write, Tried, Sync}
 use Rattle.shelf_model.specs.Shelf.{Images, Step, IsOther, Elapses, Rests, Torn, WhereTold, Leaves, written}
 use Rattle.shelf_model.specs.Calls.{content_after, content_of, left_after, left_of}
 use Rattle.shelf_model.proofs.Moments.{torn_itself}
@@ -168,3 +168,14 @@ pub settled_by_sync : {E : Type 0} (r : Result (Unit {0}) E) (calls after : List
 settled_by_sync (Err e) calls after name area ok = tt
 settled_by_sync (Ok u) calls after name area ok = λ bytes told c h.
     settles after calls name area Sync ok (λ d is. is) c h ∙ same_Some (content_of after name area) bytes told
+
+pub told_of_put : {E : Type 0} (r : Result (Unit {0}) E) (calls after : List Call) (name : List ℕ) (area : Area) (bytes : List ℕ)
+    → Grew r calls after name area (Put bytes) → OnOk r (Some (content_of after name area) ≡ Some bytes)
+told_of_put (Err e) calls after name area bytes ok = tt
+told_of_put (Ok u) calls after name area bytes ok = ap Some (ap (λ (ys : List Call). content_of ys name area) ok ∙ content_of-here calls name area (Put bytes))
+
+pub settled_by_put : {E : Type 0} (r : Result (Unit {0}) E) (calls after : List Call) (name : List ℕ) (area : Area) (bytes : List ℕ)
+    → Grew r calls after name area (Put bytes) → OnOk r (Leaves (images_of after) (length after) name area bytes)
+settled_by_put (Err e) calls after name area bytes ok = tt
+settled_by_put (Ok u) calls after name area bytes ok = λ c h.
+    settles after calls name area (Put bytes) ok (λ d is. is) c h ∙ (ap (λ (ys : List Call). content_of ys name area) ok ∙ content_of-here calls name area (Put bytes))

@@ -5,6 +5,7 @@ ghost use Rattle.shelf_model.specs.FuseShelf.{IsDue};
 ghost use Rattle.shelf_model.specs.Shelf.{written, Torn, Elapses, Rests, Stands, TellsOthers, TellsSame, Leaves, WhereTold};
 
 use crate::memory::{Action, MemShelf};
+use crate::raised;
 use crate::shelf::{Area, Shelf, ShelfErr};
 
 // Which calls fail. The first has the number 1.
@@ -23,15 +24,6 @@ pub struct FuseShelf {
     fuse: Fuse,
     calls: u64,
     faults: u64,
-}
-
-// The count after one more.
-fn raised(count: u64) -> u64
-    ensures value { result ≡ one_more count }
-    ensures rose { Rose count result }
-    ensures no_less { count ≤ result }
-{
-    count.saturating_add(1)
 }
 
 // The call of this number fails.

@@ -2,6 +2,7 @@
 ghost use Rattle.std.specs.Prelude.{◌≡◌, ◌++◌, ◌∷◌, [], ◌+◌, ◌<◌, ◌≤◌, ℕ, List, Some, None, Err, IfOk, IsErr, OnOk, OnErr, length, take, vec_len};
 ghost use Rattle.shelf_model.specs.Calls.{content_of, content_from, actions_on, left_of, is_at};
 ghost use Rattle.shelf_model.specs.Crash.{crash_of};
+ghost use Rattle.shelf_model.specs.declared.shelf.Area.{Area};
 ghost use Rattle.shelf_model.specs.Faults.{Rose};
 ghost use Rattle.shelf_model.specs.Shelf.{written, Torn, Elapses, Rests, Stands, TellsOthers, TellsSame, Leaves, WhereTold};
 
@@ -73,7 +74,13 @@ impl MemShelf {
     }
 
     // Adds a write that failed.
-    pub(crate) fn note_tried(&mut self, name: &[u8], area: Area, at: u32, len: usize) -> Result<(), ShelfErr>
+    pub(crate) fn note_tried(
+        &mut self,
+        name: &[u8],
+        area: Area,
+        at: u32,
+        len: usize,
+    ) -> Result<(), ShelfErr>
         ensures ok { OnOk result (calls_of self.new ≡ calls_of self.old ++ record { name = name.now; area = area; action = Action.Tried at len } ∷ []) }
         ensures err { OnErr result (calls_of self.new ≡ calls_of self.old) }
         ensures memory { IsErr result → result ≡ Err ShelfErr.Memory }
@@ -92,13 +99,45 @@ impl MemShelf {
         Ok(())
     }
 
-    /// Makes these the synced bytes of an area.
-    pub fn put(&mut self, name: &[u8], area: Area, bytes: &[u8]) -> Result<(), AllocError>
-        ensures noted { OnOk result (calls_of self.new ≡ calls_of self.old ++ record { name = name.now; area = area; action = Action.Put bytes.now } ∷ []) }
+    // Adds bytes that are put to the record.
+    fn note_put(&mut self, name: &[u8], area: Area, bytes: &[u8]) -> Result<(), AllocError>
+        ensures ok { OnOk result (calls_of self.new ≡ calls_of self.old ++ record { name = name.now; area = area; action = Action.Put bytes.now } ∷ []) }
         ensures err { OnErr result (calls_of self.new ≡ calls_of self.old) }
     {
         let bytes = Blob::of(self.alloc, bytes)?;
         self.note(name, area, Action::Put(bytes))
+    }
+
+    /// Makes these the synced bytes of an area. It counts as a call.
+    pub fn put(&mut self, name: &[u8], area: Area, bytes: &[u8]) -> Result<(), AllocError>
+        ensures told { OnOk result (shelf_told self.new name.now area ≡ Some bytes.now) }
+        ensures synced { OnOk result (Leaves (shelf_images self.new) (shelf_moment self.new) name.now area bytes.now) }
+        ensures others { TellsOthers (shelf_told self.old) (shelf_told self.new) name.now area }
+        ensures noted { OnOk result (calls_of self.new ≡ calls_of self.old ++ record { name = name.now; area = area; action = Action.Put bytes.now } ∷ []) }
+        ensures unnoted { OnErr result (calls_of self.new ≡ calls_of self.old) }
+    {
+        self.note_put(name, area, bytes)
+    }
+
+    /// The image in which each area has its synced bytes and the first `whole` of the writes that were done since. It is
+    /// synced.
+    pub fn crash(&self, whole: u32) -> Result<MemShelf, AllocError>
+        ensures told { IfOk result (λ after. (n : List ℕ) (b : Area) → shelf_told after n b ≡ Some (crash_of whole (calls_of self.now) n b)) }
+        ensures synced { IfOk result (λ after. (n : List ℕ) (b : Area) → Leaves (shelf_images after) (shelf_moment after) n b (crash_of whole (calls_of self.now) n b)) }
+        ensures image { IfOk result (λ after. (n : List ℕ) (b : Area) → shelf_images self.now (shelf_moment self.now) n b (crash_of whole (calls_of self.now) n b)) }
+    {
+        let mut after = MemShelf::new(self.alloc);
+        for call in &self.calls {
+            let bytes = crash_content(
+                self.alloc,
+                &self.calls,
+                call.name.items(),
+                call.area,
+                whole,
+            )?;
+            after.put(call.name.items(), call.area, &bytes)?;
+        }
+        Ok(after)
     }
 }
 
@@ -144,6 +183,45 @@ fn content(alloc: Global, calls: &[Call], n: &[u8], b: Area) -> Result<Vec<u8>, 
         }
     }
     Ok(all)
+}
+
+// The synced bytes of an area with the first writes since.
+fn crash_content(
+    alloc: Global,
+    calls: &[Call],
+    n: &[u8],
+    b: Area,
+    whole: u32,
+) -> Result<Vec<u8>, AllocError>
+    ensures { IfOk result (λ v. v.items ≡ crash_of whole calls.now n.now b) }
+{
+    let mut all = Vec::new(alloc);
+    let mut left = Vec::new(alloc);
+    let mut count = 0;
+    for call in calls {
+        if is_here(n, b, call) {
+            match &call.action {
+                Action::Put(bytes) => {
+                    all = Vec::from_slice(alloc, bytes.items())?;
+                    left = Vec::from_slice(alloc, bytes.items())?;
+                    count = 0;
+                }
+                Action::Write { at, bytes } => {
+                    all = with_write(alloc, &all, *at as usize, bytes.items())?;
+                    if count < whole {
+                        left = with_write(alloc, &left, *at as usize, bytes.items())?;
+                        count += 1;
+                    }
+                }
+                Action::Tried { .. } => {}
+                Action::Sync => {
+                    left = Vec::from_slice(alloc, &all)?;
+                    count = 0;
+                }
+            }
+        }
+    }
+    Ok(left)
 }
 
 impl Shelf for MemShelf {
