@@ -3,10 +3,18 @@ use Rattle.std.proofs.Common.{⊎_elim, ℕ, ◌<◌, ◌≤◌, List, refl, sub
 use Rattle.std.proofs.Math.Nat.{eq-or-lt_of_le}
 use Rattle.std.proofs.lemmas.Bool.{cases_lt}
 use Rattle.shelf_model.specs.declared.shelf.Area.{Area}
-use Rattle.shelf_model.specs.Shelf.{Images, Step, Elapses, Passes, Rests, Torn, EachMoment, Leaves}
+use Rattle.shelf_model.specs.Shelf.{Images, Step, Elapses, Passes, Rests, Stands, Torn, EachMoment, Leaves}
 
 pub torn_itself : (at n : ℕ) (c : List ℕ) → Torn at n c c
 torn_itself at n c = record { no_shorter = omega arith; no_longer = omega arith; same = λ i h o. refl }
+
+-- where the images stand, none is gained
+pub rests_of_stands : (t0 t1 : ℕ) (i0 i1 : Images) → Stands t0 t1 i0 i1 → Rests t0 t1 i0 i1
+rests_of_stands t0 t1 i0 i1 stands = record {
+  later = stands.later;
+  keeps = stands.keeps;
+  fewer = λ m k n b c low mid high h. (stands.same m n b c low (omega (arith, mid, high))).0 ((stands.same k n b c (omega (arith, low, mid)) high).1 h);
+}
 
 -- a call, and then one that does nothing
 pub then_still : (t0 t1 t2 : ℕ) (i0 i1 i2 : Images) (name : List ℕ) (area : Area) (step : Step) → ((c : List ℕ) → step c c)

@@ -13,7 +13,7 @@ unfolding written
 length-written at bytes old =
     omega (arith, length-front at old, length-append (take at (old ++ replicate at 0)) bytes, length-append (take at (old ++ replicate at 0) ++ bytes) (drop (at + length bytes) old), length-drop (at + length bytes) old)
 
-before_it : (at : ℕ) (bytes old : List ℕ) (i : ℕ) → i < length old → i < at → slice_index (written at bytes old) i ≡ slice_index old i
+pub before_it : (at : ℕ) (bytes old : List ℕ) (i : ℕ) → i < length old → i < at → slice_index (written at bytes old) i ≡ slice_index old i
 unfolding written
 before_it at bytes old i within low =
     let front = take at (old ++ replicate at 0) in
@@ -21,7 +21,14 @@ before_it at bytes old i within low =
     ∙ (get_or_append_left front bytes 0 i (omega (arith, length-front at old, low))
     ∙ (get_or-take at (old ++ replicate at 0) i 0 low ∙ get_or_append_left old (replicate at 0) 0 i within))
 
-behind_it : (at : ℕ) (bytes old : List ℕ) (i : ℕ) → at + length bytes ≤ i → slice_index (written at bytes old) i ≡ slice_index old i
+pub within_it : (at : ℕ) (bytes old : List ℕ) (i : ℕ) → at ≤ i → i < at + length bytes → slice_index (written at bytes old) i ≡ slice_index bytes (i - at)
+unfolding written
+within_it at bytes old i low high =
+    let front = take at (old ++ replicate at 0) in
+    get_or_append_left (front ++ bytes) (drop (at + length bytes) old) 0 i (omega (arith, length-front at old, length-append front bytes, high))
+    ∙ get_or-append_right front bytes at i 0 (length-front at old) low
+
+pub behind_it : (at : ℕ) (bytes old : List ℕ) (i : ℕ) → at + length bytes ≤ i → slice_index (written at bytes old) i ≡ slice_index old i
 unfolding written
 behind_it at bytes old i high =
     let front = take at (old ++ replicate at 0) in

@@ -1,5 +1,5 @@
 // Areas of bytes under names.
-ghost use Rattle.std.specs.Prelude.{◌≡◌, ◌+◌, ◌<◌, ◌≤◌, ℕ, List, Option, Some, None, Err, length, vec_len, IfOk, OnOk, OnErr};
+ghost use Rattle.std.specs.Prelude.{◌≡◌, ◌⊎◌, ◌+◌, ◌<◌, ◌≤◌, ℕ, List, Option, Some, None, Err, length, vec_len, IfOk, OnOk, OnErr};
 ghost use Rattle.shelf_model.specs.declared.shelf.Area.{Area};
 ghost use Rattle.shelf_model.specs.declared.shelf.ShelfErr.TheVariants.{TooLong, Failed, Memory};
 ghost use Rattle.shelf_model.specs.Shelf.{written, Torn, Elapses, Rests, Stands, TellsOthers, TellsSame, Leaves, WhereTold, Stores};
@@ -104,6 +104,9 @@ pub fn store<H: Shelf>(
 ) -> Result<(), ShelfErr>
     requires { at + length bytes.now ≤ 4294967295 }
     ensures stores { Stores (H.told shelf.old) (H.told shelf.new) (H.moment shelf.old) (H.moment shelf.new) (H.images shelf.old) (H.images shelf.new) name.now area at bytes.now result }
+    // Where memory ran out, the bytes were written wholly or not at all.
+    ensures memory { result ≡ Err ShelfErr.Memory → WhereTold (H.told shelf.old name.now area)
+        (λ before. (H.told shelf.new name.now area ≡ Some before) ⊎ (H.told shelf.new name.now area ≡ Some (written at bytes.now before))) }
     ensures limit { result ≡ Err ShelfErr.TooLong → ⊥ }
     ensures failed { result ≡ Err ShelfErr.Failed → Rose (H.faults shelf.old name.now) (H.faults shelf.new name.now) }
     ensures never_falls { (n : List ℕ) → H.faults shelf.old n ≤ H.faults shelf.new n }

@@ -1,0 +1,10 @@
+pub mod Bytes
+pub mod Stages
+pub mod Editions
+pub mod Areas
+pub mod Readings
+pub mod Crashes
+pub mod Publications
+pub mod Loads
+pub mod Histories
+pub mod Bodies
