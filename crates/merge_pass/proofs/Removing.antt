@@ -6,7 +6,7 @@ use Rattle.std.specs.Cmp.{nat_cmp_total}
 use Rattle.std.specs.FinMap as fin
 use Rattle.std.proofs.lemmas.Bool.Decides.{nat_tests}
 use Rattle.probe_tools.proofs.Counting.{same_test}
-use Rattle.block_ledger.proofs.Gets.{got-kept}
+use Rattle.block_ledger.proofs.Gets.{got-kept, got-insert, tied}
 
 pub same-map : {X : Type 0} (m n : fin.FinMap nat_cmp X) → ((q : ℕ) → fin.get m q ≡ fin.get n q) → m ≡ n
 same-map m n same = fin.same_map nat_cmp_total fin.nat_cmp-IsAntisymmetric m n same
@@ -37,3 +37,12 @@ four-removed m k = same-map _ _ (λ q.
     ∙ twice ((not (q == 4 * k + 3) && not (q == 4 * k + 2)) && not (q == 4 * k + 1)) (not (q == 4 * k)) (fin.get m q)
     ∙ ap (λ b. cond b (fin.get m q) None) (four q k)
     ∙ sym (got-kept m (λ i. not (i / 4 == k)) q))
+
+same_by : {X : Type 0} (b : Bool) (v : X) (o : Option X) → (b ≡ true → o ≡ Some v) → cond b (Some v) o ≡ o
+same_by true v o h = sym (h refl)
+same_by false v o h = refl
+
+-- a value that is there already
+pub put-same : {X : Type 0} (m : fin.FinMap nat_cmp X) (k : ℕ) (v : X) → fin.get m k ≡ Some v → fin.insert m k v ≡ m
+put-same m k v at = same-map _ _ (λ q.
+    got-insert m k v q ∙ same_by (eq_by_cmp nat_cmp q k) v (fin.get m q) (λ e. ap (fin.get m) (tied q k e) ∙ at))

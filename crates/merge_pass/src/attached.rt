@@ -1,4 +1,4 @@
-ghost use Rattle.std.specs.Prelude.{◌≡◌, ◌&&◌, not, OnOk, IfOk};
+ghost use Rattle.std.specs.Prelude.{◌≡◌, ◌&&◌, not, OnOk, OnErr, IfOk};
 ghost use Rattle.std.specs.Arc.{arc_value};
 ghost use Rattle.std.specs.FinSet as set;
 ghost use Rattle.std.specs.Ordering.{nat_cmp};
@@ -69,10 +69,21 @@ impl Attached {
 
     /// Blocks at these addresses were offered to it. The only error is want of memory.
     pub fn mark(&mut self, addrs: &[u32]) -> Result<(), AllocError>
-        ensures { OnOk result (self.new ≡ with_marks self.old addrs.now) }
+        ensures ok { OnOk result (self.new ≡ with_marks self.old addrs.now) }
+        ensures err { OnErr result (self.new ≡ self.old) }
     {
-        mark_all(&mut self.offered, addrs)
+        let mut more = copied(&self.offered)?;
+        mark_all(&mut more, addrs)?;
+        self.offered = more;
+        Ok(())
     }
+}
+
+// The same addresses.
+fn copied(set: &BTreeSet<u32>) -> Result<BTreeSet<u32>, AllocError>
+    ensures { IfOk result (λ s. s.keys ≡ set.now.keys) }
+{
+    set.clone()
 }
 
 // The addresses are in the set from now on.

@@ -82,7 +82,8 @@ impl Segments {
 
     /// Blocks at these addresses were offered to the segment of this number. The only error is want of memory.
     pub fn mark(&mut self, number: u32, addrs: &[u32]) -> Result<(), AllocError>
-        ensures { OnOk result (self.new ≡ marked number addrs.now (fin.get self.old number) self.old) }
+        ensures ok { OnOk result (self.new ≡ marked number addrs.now (fin.get self.old number) self.old) }
+        ensures err { OnErr result (self.new ≡ self.old) }
     {
         match self.map.get_mut(&number) {
             Some(segment) => segment.mark(addrs),
