@@ -1,0 +1,4 @@
+pub mod Put
+pub mod Kept
+pub mod Marks
+pub mod Blocks

@@ -1,0 +1,4 @@
+pub mod Fresh
+pub mod Process
+pub mod Begun
+pub mod Kept
