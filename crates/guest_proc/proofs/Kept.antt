@@ -27,7 +27,7 @@ chosen true o block e = e
 chosen false o block e = absurd (cc)
 
 -- the same blocks stand ready
-view_linked : (left : Option ℕ) (x : ℕ) (led : Ledger) (a : ℕ) → view (linked_by left x led) a ≡ view led a
+pub view_linked : (left : Option ℕ) (x : ℕ) (led : Ledger) (a : ℕ) → view (linked_by left x led) a ≡ view led a
 view_linked None x led a = refl
 view_linked (Some e) x led a = elim (cases_Bool (is_some (fin.get led.links e))) [
   | inl linked ↦ rw linked refl
@@ -39,7 +39,7 @@ is_none None e = refl
 is_none (Some f) e = absurd (cc)
 
 -- what stands ready once a block was found or built
-view_found : (block : Parts) (led : Ledger) (a : ℕ) → (view (found block led) a ≡ view led a) ⊎ ((a ≡ block.address) × (view (found block led) a ≡ Some block))
+pub view_found : (block : Parts) (led : Ledger) (a : ℕ) → (view (found block led) a ≡ view led a) ⊎ ((a ≡ block.address) × (view (found block led) a ≡ Some block))
 view_found block led a = elim (cases_Bool (is_shared led block.address)) [
   | inl shared ↦ inl (rw shared refl)
   | inr not_shared ↦ elim (cases_Bool (is_private led block.address)) [
@@ -183,7 +183,7 @@ built_live block led live = elim (cases_Bool (is_shared led block.address)) [
 pub built-live : (block : Parts) (led : Ledger) → is_live led block.address ≡ true → (begun block led).counts.built ≡ led.counts.built
 built-live block led live = (blocks_linked led.left block.address (found block (counted led))).1 ∙ built_live block (counted led) live
 
-not_either : (a b : Option Parts) → is_some (option_or a b) ≡ false → (is_some a ≡ false) × (is_some b ≡ false)
+pub not_either : (a b : Option Parts) → is_some (option_or a b) ≡ false → (is_some a ≡ false) × (is_some b ≡ false)
 not_either None None h = (refl, refl)
 not_either None (Some f) h = absurd (cc)
 not_either (Some f) b h = absurd (cc)

@@ -4,6 +4,7 @@ ghost use Rattle.plain_machine.specs.Memory.{fetched};
 ghost use Rattle.block_build.specs.Making.{Makes};
 ghost use Rattle.block_ledger.specs.Ledger.{is_live};
 ghost use Rattle.guest_proc.specs.Fresh.{AreFresh, block_in};
+ghost use Rattle.block_book.specs.Clauses.{IsShort};
 ghost use Rattle.guest_proc.specs.Begun.{AreMade, HasBegun};
 
 use block_book::Book;
@@ -60,6 +61,7 @@ fn block_at<M: Maker, L: Ledger>(
     requires fetched { (word : ℕ) × (fetched mem.now cpu.now.pc ≡ Ok word) }
     ensures fresh { IfOk result (λ block. block_in tool max cpu.now.isa mem.now cpu.now.pc ≡ Some block) }
     ensures made { IfOk result (λ block. Makes cpu.now.pc (Some block) steps.old steps.new (M.taken maker.old) (M.taken maker.new)) }
+    ensures short { IfOk result (λ block. IsShort block) }
 {
     let Some(code) = mem.code_at(cpu.pc) else {
         unreachable!()

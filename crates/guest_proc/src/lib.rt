@@ -6,6 +6,7 @@
 #![tactic(auto)]
 
 mod begin;
+mod block;
 mod call;
 mod process;
 mod ready;

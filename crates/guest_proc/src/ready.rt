@@ -48,7 +48,7 @@ pub fn run_ready<B: Book>(
     ensures aligned { cpu.new.pc % 4 ≡ 0 }
     ensures less { IfOk result (λ ran. fuel.new < fuel.old) }
     ensures small { (key : ℕ) → count_at report.new.counts key + fuel.new < 2 ^ 64 }
-    ensures tool { IfOk result (λ ran. report.new.tool ≡ report.old.tool) }
+    ensures tool { report.new.tool ≡ report.old.tool }
 {
     let Some(_) = mem.code_at(cpu.pc) else {
         unreachable!()

@@ -1,12 +1,18 @@
 // A process runs.
-ghost use Rattle.std.specs.Prelude.{◌≡◌};
-ghost use Rattle.guest_proc.specs.Kept.{process_of};
-ghost use Rattle.guest_proc.specs.Process.{stop_of};
+ghost use Rattle.std.specs.Prelude.{◌≡◌, ◌⊎◌, true, false, None, Some, IfOk, OnOk, OnErr, IsErr};
+ghost use Rattle.guest_proc.specs.Begun.{AreMade};
+ghost use Rattle.guest_proc.specs.Kept.{IsReady, Keeps, StopsWell, process_of, scheme_of};
+ghost use Rattle.guest_proc.specs.Process.{CameToWant, RanOn, RanOne, WantsMemory, stop_of};
 
+use crate::block::run_one_block;
 use crate::process::Proc;
 use crate::stop::Stop;
 use block_book::Book;
+use block_build::Maker;
+use cc_base::Steps;
 use plain_machine::{End, Kind};
+use std::alloc::AllocError;
+use std::sync::ledger::Ledger;
 
 impl<B: Book> Proc<B> {
     /// The stop that comes before the next block begins.
@@ -27,5 +33,45 @@ impl<B: Book> Proc<B> {
         } else {
             None
         }
+    }
+
+    /// At most one block: where a stop comes before a block begins it answers that stop; else it runs one block, and
+    /// answers the stop that follows directly, if one does. The counter and the maker are those of the blocks that are
+    /// built.
+    pub fn run_one<M: Maker, L: Ledger>(
+        &mut self,
+        maker: &mut M,
+        steps: &mut Steps<L>,
+    ) -> Result<Option<Stop>, AllocError>
+        ensures ran { IfOk result (RanOne (scheme_of self.old.at self.old.limits) (process_of self.old.at (B.ledger self.old.book)) (process_of self.new.at (B.ledger self.new.book))) }
+        ensures keeps { OnOk result (Keeps (process_of self.old.at (B.ledger self.old.book)) (process_of self.new.at (B.ledger self.new.book))) }
+        ensures asks { IfOk result (λ stop. StopsWell stop self.new.at.io) }
+        ensures made { OnOk result (AreMade (B.ledger self.old.book).counts.built (B.ledger self.new.book).counts.built steps.old steps.new (M.taken maker.old) (M.taken maker.new)) }
+        ensures wants { OnErr result ((self.old.spent ≡ true) ⊎ WantsMemory (scheme_of self.old.at self.old.limits) (process_of self.old.at (B.ledger self.old.book))) }
+        ensures spent { self.old.spent ≡ true → IsErr result }
+        ensures after { OnErr result (self.new.spent ≡ true) }
+        ensures lasts { OnOk result (self.new.spent ≡ self.old.spent) }
+        ensures scheme { scheme_of self.new.at self.new.limits ≡ scheme_of self.old.at self.old.limits }
+    {
+        if self.spent {
+            return Err(AllocError);
+        }
+        if let Some(stop) = self.stop() {
+            return Ok(Some(stop));
+        }
+        self.spent = true;
+        let stop = run_one_block(
+            self.alloc,
+            &mut self.at,
+            self.limits,
+            &mut self.book,
+            maker,
+            steps,
+        )?;
+        self.spent = false;
+        if stop.is_some() {
+            return Ok(stop);
+        }
+        Ok(self.stop())
     }
 }

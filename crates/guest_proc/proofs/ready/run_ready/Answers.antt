@@ -121,3 +121,6 @@ pub returns-in-Touched-clause-mapped : goal.returns-in-Touched-clause-mapped
 returns-in-Touched-clause-mapped g c =
     let stored : CodeAfter (lefts.Touched c.in-Touched.span) c.args.mem.now c.run_block.new.mem = subst (λ l. CodeAfter l c.args.mem.now c.run_block.new.mem) c.in-Touched.is c.in_ok-left.ensures.code in
     mapped-put c.args.mem.now c.run_block.new.mem c.in-Touched.span (g.B.Book.ledger c.args.book.now) (g.B.Book.ledger c.write.new.self) stored (c.write.ensures ∙ ap (written (range_of c.in-Touched.span)) c.leave-in-Touched.ensures) c.requires.mapped
+
+pub returns-in_err-left-clause-tool : goal.returns-in_err-left-clause-tool
+returns-in_err-left-clause-tool g c = ap (λ r. r.tool) (c.in_err-left.ensures.wants no_io).counted
