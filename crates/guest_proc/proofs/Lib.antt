@@ -3,5 +3,7 @@ pub mod Kept
 pub mod Marks
 pub mod Blocks
 pub mod Calling
-pub mod Beginning
 pub mod One
+pub mod Beginning
+pub mod More
+pub mod Starting
