@@ -2,20 +2,27 @@ use super::*;
 use std::fs;
 use std::test::Fail;
 
+// What a read of an area of the one name gives.
+fn content<H: Shelf>(shelf: &mut H, area: Area) -> Result<Vec<u8>, &'static str> {
+    match shelf.read(b"one", area, 99) {
+        Ok(bytes) => Ok(bytes),
+        Err(_) => Err("the read failed"),
+    }
+}
+
 #[test]
 fn areas_are_put_and_read(rt: HostRuntime) -> Result<(), Fail> {
     let mut shelf = MemShelf::new(rt.alloc());
     shelf.put(b"one", Area::A, b"old")?;
     shelf.put(b"one", Area::A, b"text")?;
-    let read = shelf.read(b"one", Area::A, 4).map_err(|_| "read")?;
-    assert_eq!(rt; read.as_slice(), b"text".as_slice());
+    assert_eq!(rt;
+        content(&mut shelf, Area::A)?.as_slice(),
+        b"text".as_slice()
+    );
+    assert_eq!(rt; content(&mut shelf, Area::B)?.len(), 0);
     assert_eq!(rt;
         shelf.read(b"one", Area::A, 3).err(),
         Some(ShelfErr::TooLong)
-    );
-    assert_eq!(rt;
-        shelf.read(b"one", Area::B, 3).map_err(|_| "read")?.len(),
-        0
     );
     Ok(())
 }
@@ -26,8 +33,10 @@ fn writes_keep_the_rest(rt: HostRuntime) -> Result<(), Fail> {
     shelf.put(b"one", Area::A, b"abcdef")?;
     assert_eq!(rt; shelf.write_at(b"one", Area::A, 2, b"XY"), Ok(()));
     assert_eq!(rt; shelf.write_at(b"one", Area::A, 8, b"Z"), Ok(()));
-    let read = shelf.read(b"one", Area::A, 99).map_err(|_| "read")?;
-    assert_eq!(rt; read.as_slice(), b"abXYef\0\0Z".as_slice());
+    assert_eq!(rt;
+        content(&mut shelf, Area::A)?.as_slice(),
+        b"abXYef\0\0Z".as_slice()
+    );
     Ok(())
 }
 
@@ -39,13 +48,16 @@ fn a_crash_leaves_the_first_writes(rt: HostRuntime) -> Result<(), Fail> {
     assert_eq!(rt; shelf.write_at(b"one", Area::B, 0, b"other"), Ok(()));
     assert_eq!(rt; shelf.write_at(b"one", Area::A, 3, b"YZ"), Ok(()));
     let mut none = shelf.crash(0)?;
-    let read = none.read(b"one", Area::A, 9).map_err(|_| "read")?;
-    assert_eq!(rt; read.as_slice(), b"abcd".as_slice());
+    assert_eq!(rt; content(&mut none, Area::A)?.as_slice(), b"abcd".as_slice());
     let mut first = shelf.crash(1)?;
-    let read = first.read(b"one", Area::A, 9).map_err(|_| "read")?;
-    assert_eq!(rt; read.as_slice(), b"Xbcd".as_slice());
-    let read = first.read(b"one", Area::B, 9).map_err(|_| "read")?;
-    assert_eq!(rt; read.as_slice(), b"other".as_slice());
+    assert_eq!(rt;
+        content(&mut first, Area::A)?.as_slice(),
+        b"Xbcd".as_slice()
+    );
+    assert_eq!(rt;
+        content(&mut first, Area::B)?.as_slice(),
+        b"other".as_slice()
+    );
     Ok(())
 }
 
@@ -58,15 +70,12 @@ fn the_sync_that_is_listed_fails(rt: HostRuntime) -> Result<(), Fail> {
         store(&mut shelf, b"one", Area::A, 0, b"new"),
         Err(ShelfErr::Failed)
     );
-    let read = shelf.read(b"one", Area::A, 9).map_err(|_| "read")?;
-    assert_eq!(rt; read.as_slice(), b"new".as_slice());
+    assert_eq!(rt; content(&mut shelf, Area::A)?.as_slice(), b"new".as_slice());
     let mut left = shelf.shelf().crash(0)?;
-    let read = left.read(b"one", Area::A, 9).map_err(|_| "read")?;
-    assert_eq!(rt; read.as_slice(), b"old".as_slice());
+    assert_eq!(rt; content(&mut left, Area::A)?.as_slice(), b"old".as_slice());
     assert_eq!(rt; shelf.sync(b"one", Area::A), Ok(()));
     let mut left = shelf.shelf().crash(0)?;
-    let read = left.read(b"one", Area::A, 9).map_err(|_| "read")?;
-    assert_eq!(rt; read.as_slice(), b"new".as_slice());
+    assert_eq!(rt; content(&mut left, Area::A)?.as_slice(), b"new".as_slice());
     Ok(())
 }
 
@@ -78,10 +87,7 @@ fn each_call_from_the_second_on_fails(rt: HostRuntime) {
         shelf.write_at(b"one", Area::A, 0, b"x"),
         Err(ShelfErr::Failed)
     );
-    assert_eq!(rt;
-        shelf.read(b"one", Area::A, 9).err(),
-        Some(ShelfErr::Failed)
-    );
+    assert_eq!(rt; content(&mut shelf, Area::A).is_err(), true);
     assert_eq!(rt; shelf.sync(b"one", Area::A), Err(ShelfErr::Failed));
 }
 
@@ -89,25 +95,27 @@ fn each_call_from_the_second_on_fails(rt: HostRuntime) {
 fn a_folder_keeps_areas(rt: HostRuntime) -> Result<(), Fail> {
     let _ = fs::remove_dir_all(&rt, "unit-cache");
     let mut shelf = DiskShelf::new(rt, rt.alloc());
-    let name = b"one.0.blocks";
-    assert_eq!(rt; shelf.sync(name, Area::A), Ok(()));
-    assert_eq!(rt; shelf.read(name, Area::A, 9).map_err(|_| "read")?.len(), 0);
+    assert_eq!(rt; shelf.sync(b"one", Area::A), Ok(()));
+    assert_eq!(rt; content(&mut shelf, Area::A)?.len(), 0);
     assert_eq!(rt; fs::exists(&rt, "unit-cache")?, false);
 
-    assert_eq!(rt; shelf.write_at(name, Area::A, 0, b"abcdef"), Ok(()));
-    assert_eq!(rt; shelf.sync(name, Area::A), Ok(()));
-    assert_eq!(rt; shelf.write_at(name, Area::A, 2, b"XY"), Ok(()));
-    assert_eq!(rt; shelf.sync(name, Area::A), Ok(()));
-    let read = shelf.read(name, Area::A, 6).map_err(|_| "read")?;
-    assert_eq!(rt; read.as_slice(), b"abXYef".as_slice());
-    assert_eq!(rt; shelf.read(name, Area::A, 5).err(), Some(ShelfErr::TooLong));
-
-    assert_eq!(rt; shelf.sync(name, Area::B), Ok(()));
-    assert_eq!(rt; shelf.read(name, Area::B, 9).map_err(|_| "read")?.len(), 0);
-    assert_eq!(rt; fs::exists(&rt, "unit-cache/one.0.blocks.b")?, false);
+    assert_eq!(rt; store(&mut shelf, b"one", Area::A, 0, b"abcdef"), Ok(()));
+    assert_eq!(rt; store(&mut shelf, b"one", Area::A, 2, b"XY"), Ok(()));
     assert_eq!(rt;
-        shelf.read(b"../one", Area::A, 9).err(),
-        Some(ShelfErr::Failed)
+        content(&mut shelf, Area::A)?.as_slice(),
+        b"abXYef".as_slice()
+    );
+    assert_eq!(rt;
+        shelf.read(b"one", Area::A, 5).err(),
+        Some(ShelfErr::TooLong)
+    );
+
+    assert_eq!(rt; shelf.sync(b"one", Area::B), Ok(()));
+    assert_eq!(rt; content(&mut shelf, Area::B)?.len(), 0);
+    assert_eq!(rt; fs::exists(&rt, "unit-cache/one.b")?, false);
+    assert_eq!(rt;
+        shelf.write_at(b"../one", Area::A, 0, b"x"),
+        Err(ShelfErr::Failed)
     );
     fs::remove_dir_all(&rt, "unit-cache")?;
     Ok(())
