@@ -19,4 +19,4 @@ mod writing;
 pub use error::TextErr;
 pub use header::Version;
 pub use reading::read_unit;
-pub use writing::{number_of, write_unit};
+pub use writing::{number_of, text_len, write_unit};

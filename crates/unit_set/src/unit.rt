@@ -99,6 +99,7 @@ impl Unit {
     pub fn frags(&self) -> &[Shared]
         ensures frags { result.now ≡ self.now.frags }
         ensures fresh { All (IsFreshFor self.now.slot self.now.image) result.now }
+        ensures few { length result.now ≤ 16384 }
     {
         let _: &Unit = self;
         &self.frags
