@@ -16,7 +16,7 @@ use Rattle.publish.specs.declared.loading.Found.{Found}
 use Rattle.publish.specs.Area.{Edition, which, chosen, better, door_in, door_of, seq_of, unit_of}
 use Rattle.publish.specs.Verdict.{IsVerdict, fine}
 use Rattle.publish.specs.Crash.{Fits}
-use Rattle.publish.specs.Load.{IsFound, AgreesWith, FindsAll}
+use Rattle.publish.specs.Load.{IsFound, FindsAll}
 use Rattle.publish.specs.Looking.{edition_in, IsReading, IsSeen, Sees, IsFoundOf}
 use Rattle.publish.proofs.Readings.{read_long}
 

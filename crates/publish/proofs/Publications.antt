@@ -77,7 +77,7 @@ pub text_small : (u : Held) → IsUnit u → length (text_of u) ≤ 4194291
 unfolding text_of
 text_small u is = are_short Two (raw_of u) (have_texts Two u is tt)
 
-reads : (u : Held) (seq : ℕ) (x : List ℕ) → seq < 2 ^ 64 → IsUnit u → length x ≤ 4194304 → fine u.slot (published (body_of seq (text_of u)) x) ≡ Some (record { seq = seq; unit = u })
+pub reads : (u : Held) (seq : ℕ) (x : List ℕ) → seq < 2 ^ 64 → IsUnit u → length x ≤ 4194304 → fine u.slot (published (body_of seq (text_of u)) x) ≡ Some (record { seq = seq; unit = u })
 reads u seq x fits is within = fine-published u seq x is fits (text_small u is) (omega (arith, length-published (body_of seq (text_of u)) x, length-body seq (text_of u), text_small u is, within))
 
 -- a call that did nothing

@@ -1,5 +1,5 @@
 -- The bytes of an area through the three stages of a publication.
-use Rattle.std.specs.Prelude.{◌≡◌, ◌≢◌, ◌⊎◌, ℕ, zero, suc, ◌<◌, ◌≤◌, List, [], ◌∷◌, length, nat_eq, if◌then◌else◌, slice_index, Option, Some, None, Result, Ok, Err, OnOk, OnErr}
+use Rattle.std.specs.Prelude.{◌≡◌, ◌≢◌, ◌⊎◌, ℕ, zero, suc, ◌<◌, ◌≤◌, List, [], ◌∷◌, length, slice_index, Option, Some, None, Result, Ok, Err, OnOk, OnErr}
 use Rattle.shelf_model.specs.declared.shelf.Area.{Area}
 use Rattle.shelf_model.specs.Shelf.{Told, Images, EachMoment, Torn, Passes, TellsOthers, WhereTold, Leaves, Stores, written}
 use Rattle.publish.specs.declared.gates.PubErr.{PubErr}

@@ -1,5 +1,5 @@
 -- What areas are taken for, on the way to what a load answers.
-use Rattle.std.specs.Prelude.{◌≡◌, ℕ, List, Option, Some, None, Result, Ok, Err}
+use Rattle.std.specs.Prelude.{◌≡◌, ℕ, List, Option, Some, None, Ok, Err}
 use Rattle.shelf_model.specs.declared.shelf.Area.{Area}
 use Rattle.shelf_model.specs.Shelf.{Told}
 use Rattle.unit_set.specs.Raw.{Raw}

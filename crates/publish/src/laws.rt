@@ -1,8 +1,9 @@
-// Publications one after another.
+//! What holds of verdicts and of what areas hold, as contracts, and what publications one after another come to.
 ghost use Rattle.std.specs.Prelude.{◌≡◌, ◌+◌, ◌∷◌, [], Some, OnOk};
 ghost use Rattle.publish.specs.Verdict.{held};
 ghost use Rattle.publish.specs.Crash.{ForBoth, Fits, as_next};
 ghost use Rattle.publish.specs.History.{Follows};
+ghost use Rattle.publish.specs.Laws.{VerdictsAreOne, FineHasEdition, EditionsAreFound, PublicationsAreRead};
 
 use crate::{PubErr, Standing, publish};
 use shelf_model::Shelf;
@@ -26,3 +27,23 @@ pub fn publish_two<H: Shelf>(
     publish(alloc, shelf, first, standing)?;
     publish(alloc, shelf, second, standing)
 }
+
+/// An area has one verdict.
+pub fn verdicts_are_one()
+    ensures { VerdictsAreOne }
+{}
+
+/// An area has the verdict `Fine` exactly where it has an edition: a unit of the slot, with a seq.
+pub fn fine_has_edition()
+    ensures { FineHasEdition }
+{}
+
+/// The edition by which the held area is picked is the one that the area has.
+pub fn editions_are_found()
+    ensures { EditionsAreFound }
+{}
+
+/// A unit that is published is read, whatever stood in the area before.
+pub fn publications_are_read()
+    ensures { PublicationsAreRead }
+{}
