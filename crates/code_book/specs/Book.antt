@@ -8,7 +8,7 @@ use Rattle.exit_links.specs.Linked.{Linked}
 use Rattle.fragment.specs.Parts.{Parts}
 pub use Rattle.block_book.specs.Clauses.{IsShort}
 use Rattle.block_ledger.specs.Ledger.{Ledger, Segment, Counts, exit_at, view, linked_by}
-use Rattle.code_book.specs.Tables.{Held, Tables, leads, tabulated, exits_of, block_at, link_at}
+use Rattle.code_book.specs.Tables.{Held, Tables, and_then, leads, tabulated, exits_of, block_at, link_at}
 use Rattle.code_writes.specs.Meeting.{AreShort}
 use Rattle.code_book.specs.Keeping.{AreTied}
 
@@ -50,6 +50,10 @@ ledger k = record {
   left = option_map (exit_at k.block) k.left;
   counts = k.counts;
 }
+
+-- where the exit leads by which the block begun last was left, if that has a place still
+abbrev pub next_of : Book → Option ℕ
+next_of k = and_then k.here (λ p. and_then k.left (λ e. leads k.links (2 * p + e)))
 
 abbrev pub size_of : Parts → ℕ
 size_of f = 4 * length f.words
