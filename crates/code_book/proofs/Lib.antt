@@ -19,3 +19,4 @@ pub mod Walking
 pub mod Unlinking
 pub mod UnitBlocks
 pub mod Offering
+pub mod Building

@@ -10,10 +10,13 @@ mod code_book;
 mod exits;
 mod find;
 mod kept;
+pub mod laws;
 mod new;
 mod offer;
 mod own;
 mod settle;
+#[cfg(test)]
+mod tests;
 mod units;
 mod unplace;
 mod withdraw;
