@@ -64,7 +64,8 @@ impl CodeBook {
         let place = self.reserve()?;
         let addr = block.addr();
         self.settle(place, block)?;
-        self.link_to(addr, place);
+        let next = self.next_place();
+        self.link_to(next, addr, place);
         self.stand_at(addr, place);
         Ok(())
     }
