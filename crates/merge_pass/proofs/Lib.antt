@@ -1,0 +1,3 @@
+pub mod Spelling
+pub mod Choosing
+pub mod Offered
