@@ -35,6 +35,18 @@ pub(crate) fn hang(lists: &mut InLists, exit: u32, to: u32)
     lists.each_in_one_list();
 }
 
+// The exit leads to the place, and nowhere else.
+pub(crate) fn lead(lists: &mut InLists, exit: u32, to: u32)
+    requires exit { exit < lists.old.exits }
+    requires to { to < length lists.old.lists }
+    ensures leads { (x : ℕ) → leads lists.new x ≡ cond (x == exit) (Some to) (leads lists.old x) }
+    ensures exits { lists.new.exits ≡ lists.old.exits }
+    ensures heads { length lists.new.lists ≡ length lists.old.lists }
+{
+    cut(lists, exit);
+    hang(lists, exit, to);
+}
+
 // The exit leads nowhere.
 pub(crate) fn cut(lists: &mut InLists, exit: u32)
     requires { exit < lists.old.exits }

@@ -4,7 +4,7 @@ ghost use Rattle.std.specs.FinMap as fin;
 ghost use Rattle.exit_links.specs.Linked.{exit_number, target_of, linked, leads_to};
 ghost use Rattle.exit_links.specs.Leads.{leads, pairs_of};
 
-use crate::hung::{cut, cut_all, hang, in_range, moved, take_to, target, unlinked};
+use crate::hung::{cut, cut_all, in_range, lead, moved, take_to, target, unlinked};
 use cc_base::Steps;
 use in_lists::InLists;
 use std::alloc::{AllocError, Global};
@@ -58,6 +58,13 @@ impl Links {
         })
     }
 
+    /// How many places there are.
+    pub fn places(&self) -> u32
+        ensures { result ≡ self.now.places }
+    {
+        self.places
+    }
+
     /// Tells that each exit that is linked, and its target, are of places below the number of places. It does nothing.
     pub fn in_range(&self)
         ensures { (x q : ℕ) → fin.get self.now.pairs x ≡ Some q → (x / 2 < self.now.places) × (q < self.now.places) }
@@ -88,15 +95,14 @@ impl Links {
         target(&self.lists, 2 * from + exit as u32)
     }
 
-    /// The exit, which is not linked, leads to the place.
+    /// The exit leads to the place, wherever it led before.
     pub fn link(&mut self, from: u32, exit: u8, to: u32)
-        requires free { fin.get self.old.pairs (exit_number from exit) ≡ None }
         requires exit { exit < 2 }
         requires from { from < self.old.places }
         requires to { to < self.old.places }
         ensures { self.new ≡ linked self.old.places (fin.insert self.old.pairs (exit_number from exit) to) }
     {
-        hang(&mut self.lists, 2 * from + exit as u32, to);
+        lead(&mut self.lists, 2 * from + exit as u32, to);
     }
 
     /// No exit leads to the place. Each that did is a step.

@@ -11,7 +11,7 @@ use Rattle.probe_tools.specs.declared.probe.ProbeKind.{ProbeKind}
 use Rattle.fragment.specs.declared.Exit.{Exit}
 use Rattle.fragment.specs.declared.Probe.{Probe}
 use Rattle.fragment.specs.Parts.{Parts}
-use Rattle.fragment.specs.Build.{words_at, size_at, word_at, IsBuilt, IsFresh}
+use Rattle.fragment.specs.Build.{words_at, size_at, IsBuilt}
 use Rattle.fragment.specs.Exits.{exits_of}
 use Rattle.fragment.specs.Probing.{probe_at, placed, probes_before, probes_of}
 use Rattle.fragment.proofs.Values.{length_words, value-built}

@@ -1,7 +1,7 @@
 -- What a step answers, and what it answers where more bytes follow.
-use Rattle.std.proofs.Common.{◌≡◌, ◌⊎◌, ℕ, zero, suc, ◌+◌, ◌%◌, ◌^◌, ◌<◌, ◌≤◌, Bool, true, false, cond, leb, ltb, eqb, ◌&&◌, ◌||◌, List, [], ◌∷◌, ◌++◌, length, take, drop, Option, Some, None, Result, Ok, Err, refl, sym, ap, subst, ◌∙◌, append_assoc, arith, inl, inr}
-use Rattle.std.specs.Int.{Width, w16, w32, byte_len, from_le_bytes}
-use Rattle.std.proofs.lemmas.Bool.{cases_Bool, leb-true, le-leb}
+use Rattle.std.proofs.Common.{◌≡◌, ◌⊎◌, ℕ, zero, suc, ◌%◌, ◌≤◌, Bool, true, false, cond, leb, ltb, eqb, ◌||◌, List, [], ◌∷◌, ◌++◌, length, take, drop, Result, Ok, Err, refl, ap, arith, inl, inr}
+use Rattle.std.specs.Int.{Width, w16, w32, byte_len}
+use Rattle.std.proofs.lemmas.Bool.{leb-true, le-leb}
 use Rattle.std.proofs.lemmas.List.{length-append, take-append-le}
 use Rattle.cc_base.specs.Image.{Code}
 use Rattle.rv_decode.specs.declared.ins.Isa.{Isa}
@@ -10,7 +10,7 @@ use Rattle.unit_format.specs.declared.error.TextErr.{TextErr}
 use Rattle.unit_format.specs.declared.error.TextErr.TheVariants as errors
 use Rattle.unit_format.specs.declared.header.Version.{Version}
 use Rattle.unit_format.specs.declared.header.Version.TheVariants.{One, Two}
-use Rattle.unit_format.specs.Steps.{◌>>=◌, rule, known, byte_at, bytes_at, number_at, each, many}
+use Rattle.unit_format.specs.Steps.{◌>>=◌, rule, known, byte_at, bytes_at, number_at, each}
 use Rattle.unit_format.specs.Reading.{version_of, version_at, isa_of, isa_at, same_isa, slot_at, fits_segment, image_at, count_at, holds_words, place_at, kind_of, probe_at, probes_at, exit_of, exit_at, out_at, outs_at, fragment_at, turn_at, next_turn, fragments_at, text_at}
 
 -- the later answer is the earlier one with more bytes behind it, or the earlier one lacked bytes

@@ -1,8 +1,8 @@
 -- A fragment that is read is the fragment that was written, and what was written is read again.
-use Rattle.std.proofs.Common.{◌≡◌, ◌⊎◌, ℕ, zero, suc, ◌+◌, ◌*◌, ◌%◌, ◌^◌, ◌<◌, ◌≤◌, Bool, true, false, cond, leb, ltb, eqb, ◌&&◌, ◌||◌, List, [], ◌∷◌, ◌++◌, length, map, Option, Some, None, Result, Ok, Err, refl, sym, ap, subst, ◌∙◌, append_assoc, arith, inl, inr}
-use Rattle.std.specs.Int.{w16, w32, to_le_bytes}
+use Rattle.std.proofs.Common.{◌≡◌, ◌⊎◌, ℕ, ◌+◌, ◌*◌, ◌%◌, ◌^◌, ◌<◌, ◌≤◌, Bool, true, false, cond, leb, ltb, eqb, ◌&&◌, ◌||◌, List, [], ◌∷◌, ◌++◌, length, Option, Some, None, Result, Ok, refl, sym, ap, subst, ◌∙◌, append_assoc, arith, inl, inr}
+use Rattle.std.specs.Int.{w32}
 use Rattle.std.specs.List.{flat_map, AllByRecursion}
-use Rattle.std.proofs.lemmas.Bool.{ltb-true, lt-ltb, leb-true, le-leb, eqb-true, eq-eqb, and_parts, and_from, or_cases, or_left, or_right}
+use Rattle.std.proofs.lemmas.Bool.{ltb-true, lt-ltb, leb-true, le-leb, eqb-true, eq-eqb, and_parts, and_from, or_cases}
 use Rattle.std.proofs.lemmas.List.{length-map}
 use Rattle.cc_base.specs.Image.{Code}
 use Rattle.fragment.specs.declared.Exit.{Exit}
@@ -10,14 +10,13 @@ use Rattle.fragment.specs.declared.Exit.TheVariants.{Direct, Indirect, Asks, Sto
 use Rattle.fragment.specs.declared.Probe.{Probe}
 use Rattle.probe_tools.specs.declared.probe.ProbeKind.{ProbeKind}
 use Rattle.probe_tools.specs.declared.probe.ProbeKind.TheVariants.{Block, Call, Load, Store}
-use Rattle.fragment.specs.Parts.{Parts}
 use Rattle.unit_set.specs.Raw.{Tied}
 use Rattle.fragment.specs.Build.{words_at}
 use Rattle.unit_format.specs.declared.error.TextErr.{TextErr}
 use Rattle.unit_format.specs.declared.error.TextErr.TheVariants as errors
 use Rattle.unit_format.specs.declared.header.Version.{Version}
 use Rattle.unit_format.specs.declared.header.Version.TheVariants.{One, Two}
-use Rattle.unit_format.specs.Steps.{◌>>=◌, rule, known, byte_at, bytes_at, number_at, each, many}
+use Rattle.unit_format.specs.Steps.{rule, known, byte_at, number_at, each, many}
 use Rattle.unit_format.specs.Text.{count_text, u32_text, kind_code, probe_text, exit_text, Out, out_text, outs, fragment_text, HoldsWords, IsProbe, IsExit, IsOut, IsFragment, AreFragments}
 use Rattle.unit_format.specs.Reading.{count_at, holds_words, place_at, kind_of, probe_at, probes_at, exit_of, exit_at, out_at, outs_at, exits_of, links_of, fragment_at, Turn, turn_at, next_turn}
 use Rattle.unit_format.proofs.Words.{length-words_at}

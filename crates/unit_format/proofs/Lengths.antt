@@ -1,15 +1,14 @@
 -- How long a text can be.
-use Rattle.std.proofs.Common.{◌≡◌, ◌⊎◌, ℕ, zero, suc, ◌+◌, ◌*◌, ◌≤◌, List, [], ◌∷◌, ◌++◌, length, true, leb, ◌&&◌, refl, sym, ap, ◌∙◌, arith, inl, inr}
+use Rattle.std.proofs.Common.{◌≡◌, ◌⊎◌, ℕ, ◌+◌, ◌*◌, ◌≤◌, List, [], ◌∷◌, ◌++◌, length, true, leb, ◌&&◌, arith, inl, inr}
 use Rattle.std.specs.List.{flat_map, list_all}
 use Rattle.std.proofs.lemmas.Bool.{leb-true, and_parts}
 use Rattle.std.proofs.lemmas.List.{length-append}
 use Rattle.cc_base.specs.Image.{Code, FitsSegment}
 use Rattle.fragment.specs.declared.Exit.{Exit}
 use Rattle.fragment.specs.declared.Exit.TheVariants.{Direct, Indirect, Asks, Stop}
-use Rattle.fragment.specs.declared.Probe.{Probe}
 use Rattle.rv_decode.specs.declared.ins.Isa.{Isa}
 use Rattle.rv_decode.specs.declared.ins.Isa.TheVariants.{I, Im}
-use Rattle.unit_set.specs.Raw.{Tied, Raw}
+use Rattle.unit_set.specs.Raw.{Tied}
 use Rattle.unit_set.specs.Slot.{Slot}
 use Rattle.probe_tools.specs.declared.tool.Tool.{Tool}
 use Rattle.probe_tools.specs.declared.tool.Tool.TheVariants.{Blocks, Calls, Memory}
@@ -17,7 +16,7 @@ use Rattle.unit_set.specs.Slot.{slot_text, tool_text, isa_tail, is_module, is_mo
 use Rattle.unit_set.proofs.SlotText.{text_length}
 use Rattle.unit_format.specs.declared.header.Version.{Version}
 use Rattle.unit_format.specs.declared.header.Version.TheVariants.{One, Two}
-use Rattle.unit_format.specs.Text.{magic_text, isa_text, count_text, u32_text, name_text, image_text, probe_text, exit_text, Out, out_text, outs, fragment_text, text, IsFragment, AreFragments, IsRaw}
+use Rattle.unit_format.specs.Text.{magic_text, isa_text, count_text, u32_text, name_text, image_text, probe_text, exit_text, Out, out_text, outs, fragment_text, IsFragment, AreFragments}
 use Rattle.unit_format.specs.Laws.{TextsAreShort}
 
 joined : (xs ys : List ℕ) (m n : ℕ) → length xs ≤ m → length ys ≤ n → length (xs ++ ys) ≤ m + n

@@ -9,3 +9,4 @@ pub mod RawLaws
 pub mod Following
 pub mod RefusalLaws
 pub mod Lengths
+pub mod Sizes

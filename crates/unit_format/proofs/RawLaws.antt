@@ -1,22 +1,18 @@
 -- A unit, as it is written, breaks no rule of the format.
-use Rattle.std.proofs.Common.{◌≡◌, ◌⊎◌, IfSome, ℕ, zero, suc, ◌+◌, ◌-◌, ◌*◌, ◌%◌, ◌^◌, ◌<◌, ◌≤◌, Bool, true, false, eqb, leb, ◌&&◌, List, [], ◌∷◌, length, map, get_or, take, drop, Option, Some, None, refl, sym, ap, subst, ◌∙◌, arith, inl, inr}
+use Rattle.std.proofs.Common.{IfSome, ℕ, suc, ◌+◌, ◌^◌, ◌<◌, ◌≤◌, Bool, true, false, eqb, List, [], ◌∷◌, length, map, get_or, Option, Some, None, arith}
 use Rattle.std.specs.Prelude.{if◌then◌else◌, option_map}
 use Rattle.std.specs.List.{All, AllByRecursion}
-use Rattle.std.specs.Int.{w32, from_le_bytes}
-use Rattle.std.proofs.lemmas.Bool.{leb-true, and_parts}
 use Rattle.std.proofs.lemmas.List.{length-map}
 use Rattle.std.proofs.lemmas.List.Elements.{All-head, All-tail}
 use Rattle.cc_base.specs.Image.{Code, FitsSegment}
 use Rattle.fragment.specs.declared.Exit.{Exit}
 use Rattle.fragment.specs.declared.Exit.TheVariants.{Direct, Indirect, Asks, Stop}
 use Rattle.fragment.specs.Parts.{Parts}
-use Rattle.unit_set.specs.Raw.{Tied}
 use Rattle.unit_set.specs.Slot.{Slot, IsSlot}
 use Rattle.unit_set.specs.Sets.{place, IsRising}
-use Rattle.unit_set.specs.Held.{addresses, Held, IsFreshFor, IsUnit, link_in}
-use Rattle.unit_format.specs.declared.header.Version.{Version}
-use Rattle.unit_format.specs.Text.{outs, IsProbe, IsExit, IsOut, IsFragment, AreFragments, HasTexts, IsRaw}
-use Rattle.unit_format.specs.Units.{link_number, links_in, tied, raw_of}
+use Rattle.unit_set.specs.Held.{addresses, IsFreshFor, link_in}
+use Rattle.unit_format.specs.Text.{outs, IsExit, IsOut, IsFragment, AreFragments}
+use Rattle.unit_format.specs.Units.{link_number, links_in, tied}
 use Rattle.unit_format.specs.Laws.{UnitsHaveTexts}
 use Rattle.unit_format.proofs.Blocks.{IsBlock, is_block}
 

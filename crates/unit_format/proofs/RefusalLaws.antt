@@ -1,12 +1,12 @@
 -- A refusal is that of the front: it stands whatever follows, and a cut text lacks bytes.
-use Rattle.std.proofs.Common.{◌≡◌, ◌⊎◌, ℕ, Bool, true, false, cond, eqb, List, [], ◌∷◌, ◌++◌, length, Result, Ok, Err, refl, sym, ap, ◌∙◌, arith, inl, inr}
+use Rattle.std.proofs.Common.{◌≡◌, ℕ, Bool, true, false, eqb, List, [], ◌∷◌, ◌++◌, length, Result, Ok, Err, refl, sym, ap, ◌∙◌, inl, inr}
 use Rattle.std.proofs.lemmas.List.{append-nil}
 use Rattle.unit_set.specs.Raw.{Raw}
 use Rattle.unit_format.specs.declared.error.TextErr.{TextErr}
 use Rattle.unit_format.specs.declared.error.TextErr.TheVariants.{Short, Trailing}
 use Rattle.unit_format.specs.declared.header.Version.{Version}
 use Rattle.unit_format.specs.Steps.{◌>>=◌, rule}
-use Rattle.unit_format.specs.Text.{text, IsRaw}
+use Rattle.unit_format.specs.Text.{text}
 use Rattle.unit_format.specs.Reading.{text_at, unit_of}
 use Rattle.unit_format.specs.Laws.{RefusalsStand, FrontsAreShort}
 use Rattle.unit_format.proofs.Following.{Follows, text_follows}

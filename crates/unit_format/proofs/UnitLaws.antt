@@ -1,8 +1,8 @@
 -- A text that is read is the text that was written, and what was written is read again.
-use Rattle.std.proofs.Common.{◌≡◌, ℕ, zero, suc, ◌+◌, ◌^◌, ◌<◌, ◌≤◌, Bool, true, false, cond, leb, eqb, ◌&&◌, List, [], ◌∷◌, ◌++◌, length, Option, Some, None, Result, Ok, Err, refl, sym, ap, subst, ◌∙◌, append_assoc, arith, inl, inr}
+use Rattle.std.proofs.Common.{◌≡◌, ℕ, ◌+◌, ◌^◌, ◌<◌, ◌≤◌, true, leb, eqb, ◌&&◌, List, [], ◌∷◌, ◌++◌, length, Some, None, Result, Ok, Err, refl, sym, ap, subst, ◌∙◌, append_assoc, arith, inl, inr}
 use Rattle.std.specs.Int.{w32, to_le_bytes}
 use Rattle.std.specs.List.{flat_map}
-use Rattle.std.proofs.lemmas.Bool.{leb-true, le-leb, eqb-true, eq-eqb, and_parts, and_from}
+use Rattle.std.proofs.lemmas.Bool.{leb-true, le-leb, eqb-true, and_parts, and_from}
 use Rattle.std.proofs.lemmas.List.{append-nil, nil_from_length}
 use Rattle.cc_base.specs.Image.{Code, FitsSegment}
 use Rattle.rv_decode.specs.declared.ins.Isa.{Isa}
@@ -16,9 +16,9 @@ use Rattle.unit_format.specs.declared.error.TextErr.TheVariants as errors
 use Rattle.unit_format.specs.declared.header.Version.{Version}
 use Rattle.unit_format.specs.declared.header.Version.TheVariants.{One, Two}
 use Rattle.std.specs.Prelude.{IfOk}
-use Rattle.unit_format.specs.Steps.{◌>>=◌, Gives, rule, known, byte_at, bytes_at, number_at, each}
+use Rattle.unit_format.specs.Steps.{Gives, rule, known, byte_at, bytes_at, number_at}
 use Rattle.unit_format.specs.Text.{magic_text, isa_text, HasTexts, u32_text, name_text, image_text, fragment_text, text, code, AreFragments, IsRaw, Spells}
-use Rattle.unit_format.specs.Reading.{version_of, version_at, isa_of, isa_at, same_isa, slot_at, fits_segment, image_at, turn_at, next_turn, fragments_at, text_at, unit_of}
+use Rattle.unit_format.specs.Reading.{version_of, version_at, isa_of, isa_at, same_isa, slot_at, fits_segment, image_at, fragments_at, text_at, unit_of}
 use Rattle.unit_format.specs.Laws.{NoneBeginsAnother, TextsAreRead, ReadsWhatIsSpelled}
 use Rattle.unit_format.proofs.Fields.{Octets, same_value, Yields, then, gives, weaker, ruled, knows, Cuts, ◌▸◌, cuts_none, byte_takes, byte_again, bytes_takes, bytes_again, wide32, number_takes, number_again}
 use Rattle.unit_format.proofs.FragmentLaws.{rule_again, some_if, row_takes, row_again}

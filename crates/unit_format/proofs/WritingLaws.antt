@@ -5,7 +5,6 @@ use Rattle.std.proofs.lemmas.List.{take_all}
 use Rattle.std.proofs.lemmas.List.Folds.{flat_map-map}
 use Rattle.fragment.specs.declared.Exit.{Exit}
 use Rattle.fragment.specs.Parts.{Parts}
-use Rattle.unit_set.specs.Raw.{Tied}
 use Rattle.unit_set.specs.Held.{link_in}
 use Rattle.unit_format.specs.declared.header.Version.TheVariants.{Two}
 use Rattle.unit_format.specs.Text.{out_text, outs, fragment_text}

@@ -1,5 +1,5 @@
 -- What holds of the texts of units.
-use Rattle.std.specs.Prelude.{◌≡◌, ℕ, ◌<◌, ◌≤◌, ◌↔◌, List, [], ◌++◌, length, Result, Ok, Err, slice_index_or}
+use Rattle.std.specs.Prelude.{◌≡◌, ℕ, ◌<◌, ◌≤◌, ◌↔◌, List, [], ◌++◌, length, Ok, Err, slice_index_or}
 use Rattle.unit_set.specs.Raw.{Raw}
 use Rattle.unit_format.specs.declared.error.TextErr.{TextErr}
 use Rattle.unit_format.specs.declared.error.TextErr.TheVariants.{Short, Trailing}

@@ -1,5 +1,5 @@
 -- Reading a unit's text. Each rule stands behind the fields that it needs; the first failure is the answer.
-use Rattle.std.specs.Prelude.{◌≡◌, ℕ, ◌+◌, ◌*◌, ◌%◌, zero, suc, List, [], ◌∷◌, length, map, Bool, true, false, ◌==◌, ◌&&◌, ◌||◌, nat_le, nat_lt, Option, Some, None, Result, Ok, Err, if◌then◌else◌}
+use Rattle.std.specs.Prelude.{ℕ, ◌+◌, ◌*◌, ◌%◌, List, length, map, Bool, true, false, ◌==◌, ◌&&◌, ◌||◌, nat_le, nat_lt, Option, Some, None, Result, Ok, if◌then◌else◌}
 use Rattle.std.specs.Int.{w16, w32}
 use Rattle.cc_base.specs.Image.{Code}
 use Rattle.fragment.specs.declared.Exit.{Exit}
@@ -9,7 +9,6 @@ use Rattle.probe_tools.specs.declared.probe.ProbeKind.{ProbeKind}
 use Rattle.probe_tools.specs.declared.probe.ProbeKind.TheVariants.{Block, Call, Load, Store}
 use Rattle.rv_decode.specs.declared.ins.Isa.{Isa}
 use Rattle.rv_decode.specs.declared.ins.Isa.TheVariants.{I, Im}
-use Rattle.fragment.specs.Parts.{Parts}
 use Rattle.unit_set.specs.Raw.{Tied, Raw}
 use Rattle.unit_set.specs.Slot.{Slot}
 use Rattle.fragment.specs.Build.{words_at}

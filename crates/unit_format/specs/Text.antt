@@ -10,9 +10,7 @@ use Rattle.probe_tools.specs.declared.probe.ProbeKind.{ProbeKind}
 use Rattle.probe_tools.specs.declared.probe.ProbeKind.TheVariants.{Block, Call, Load, Store}
 use Rattle.rv_decode.specs.declared.ins.Isa.{Isa}
 use Rattle.rv_decode.specs.declared.ins.Isa.TheVariants.{I, Im}
-use Rattle.fragment.specs.Parts.{Parts}
 use Rattle.unit_set.specs.Raw.{Tied, Raw}
-use Rattle.unit_set.specs.Slot.{Slot}
 use Rattle.fragment.specs.Build.{words_at}
 use Rattle.unit_set.specs.Slot.{slot_text, IsSlot}
 use Rattle.unit_format.specs.declared.header.Version.{Version}

@@ -3,6 +3,7 @@ ghost use Rattle.std.specs.Int.{w16, w32};
 ghost use Rattle.unit_format.specs.Steps.{Gives, byte_at, number_at, bytes_at};
 
 use crate::error::TextErr;
+use byteorder::{ByteOrder, LittleEndian};
 
 /// The byte at the front, and the bytes behind it.
 #[tactic(auto, unfolding(crate::specs::Steps::byte_at))]
@@ -24,7 +25,7 @@ pub fn u16_at(bytes: &[u8]) -> Result<(u16, &[u8]), TextErr>
         return Err(TextErr::Short);
     }
     let (front, rest) = bytes.split_at(2);
-    Ok((u16::from_le_bytes([front[0], front[1]]), rest))
+    Ok((LittleEndian::read_u16(front), rest))
 }
 
 /// The number of four bytes at the front.
@@ -36,10 +37,7 @@ pub fn u32_at(bytes: &[u8]) -> Result<(u32, &[u8]), TextErr>
         return Err(TextErr::Short);
     }
     let (front, rest) = bytes.split_at(4);
-    Ok((
-        u32::from_le_bytes([front[0], front[1], front[2], front[3]]),
-        rest,
-    ))
+    Ok((LittleEndian::read_u32(front), rest))
 }
 
 /// So many bytes at the front.

@@ -1,3 +1,4 @@
+pub mod Room
 pub mod Slot
 pub mod Naming
 pub mod Fields

@@ -9,6 +9,7 @@
 pub mod laws;
 mod merge;
 mod raw;
+mod room;
 mod shared;
 mod slot;
 mod spelling;
@@ -18,6 +19,7 @@ mod union;
 mod unit;
 
 pub use raw::{RawFrag, RawUnit};
+pub use room::{put_byte, put_bytes};
 pub use shared::Shared;
 pub use slot::{NameErr, SlotName};
 pub use unit::{Joined, Unit, link_at};

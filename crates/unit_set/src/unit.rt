@@ -99,6 +99,7 @@ impl Unit {
     pub fn frags(&self) -> &[Shared]
         ensures frags { result.now ≡ self.now.frags }
         ensures fresh { All (IsFreshFor self.now.slot self.now.image) result.now }
+        ensures few { length result.now ≤ 16384 }
     {
         let _: &Unit = self;
         &self.frags
@@ -129,6 +130,13 @@ impl Unit {
         ensures place { result ≡ place_in self.now.frags addr }
     {
         place_of(self.addrs(), addr)
+    }
+
+    /// Whether it has a fragment at an address.
+    pub fn has(&self, addr: u32) -> bool
+        ensures { result ≡ has addr (addresses self.now.frags) }
+    {
+        has_addr(self.addrs(), addr)
     }
 
     /// The fragment at a place.

@@ -1,10 +1,10 @@
-use Rattle.std.proofs.Common.{◌≡◌, ◌++◌, ◌∷◌, ◌-◌, ◌+◌, [], refl, ap, ◌∙◌, ℕ, arith}
+use Rattle.std.proofs.Common.{◌≡◌, ◌+◌, ap, ℕ, arith}
 use Rattle.std.proofs.lemmas.Result.{err_from_is_err_and}
 use Rattle.unit_set.specs.Raw.{Tied}
 use Rattle.unit_format.specs.Steps.{each}
 use Rattle.unit_format.specs.Text.{code}
 use Rattle.unit_format.specs.Reading.{turn_at, next_turn}
-use Rattle.unit_format.proofs.Loop.{starts, steps_on, stops, runs_out}
+use Rattle.unit_format.proofs.Loop.{steps_on, stops, runs_out}
 use Rattle.unit_format.proofs.fragments.fragments_in.Goals as goal
 
 pub returns-in_err-fragment : goal.returns-in_err-fragment

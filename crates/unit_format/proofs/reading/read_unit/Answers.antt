@@ -1,5 +1,4 @@
-use Rattle.std.proofs.Common.{subst, arith, ap, ◌∙◌}
-use Rattle.unit_set.specs.Raw.{Raw}
+use Rattle.std.proofs.Common.{subst, arith}
 use Rattle.unit_format.specs.Steps.{Gives}
 use Rattle.unit_format.proofs.UnitLaws.{spelled_if_read, unit_again}
 use Rattle.unit_format.proofs.reading.read_unit.Goals as goal

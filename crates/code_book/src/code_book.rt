@@ -1,0 +1,33 @@
+// The book of a process.
+ghost use Rattle.code_book.specs.Book.{book, IsKept};
+
+use code_writes::Covers;
+use exit_links::Links;
+use frag_table::FragTable;
+use merge_pass::Segments;
+use std::alloc::Global;
+
+/// What happened so far.
+#[derive(Clone, Copy, Debug)]
+pub struct Counts {
+    pub blocks: u64,
+    pub reused: u64,
+    pub built: u64,
+    pub linked: u64,
+}
+
+/// The live blocks of a process by place, their links, and what a write meets.
+#[derive(Drop)]
+pub struct CodeBook {
+    pub(crate) alloc: Global,
+    pub(crate) segments: Segments,
+    pub(crate) places: FragTable,
+    pub(crate) links: Links,
+    pub(crate) covers: Covers,
+    pub(crate) block: u32,
+    pub(crate) here: Option<u32>,
+    pub(crate) left: Option<u8>,
+    pub(crate) own: u64,
+    pub(crate) counts: Counts,
+    ghost kept: { IsKept (book segments places.index places.slots links covers block here left own counts.blocks counts.reused counts.built counts.linked) },
+}
