@@ -36,7 +36,9 @@ pub fn run_one_block<B: Book, M: Maker, L: Ledger>(
     ensures tool { at.new.report.tool ≡ at.old.report.tool }
 {
     let tool = at.report.tool();
-    begin(alloc, &at.cpu, &at.mem, tool, limits.max, book, maker, steps)?;
+    begin(
+        alloc, &at.cpu, &at.mem, tool, limits.max, book, maker, steps,
+    )?;
     match run_ready(
         &mut at.cpu,
         &mut at.mem,

@@ -13,6 +13,8 @@ mod ready;
 mod run;
 mod running;
 mod stop;
+#[cfg(test)]
+mod tests;
 
 pub use process::Proc;
 pub use running::{Limits, Running};
