@@ -7,7 +7,7 @@ use Rattle.cc_base.specs.Span.{Range}
 use Rattle.exit_links.specs.Linked.{Linked}
 use Rattle.fragment.specs.Parts.{Parts}
 pub use Rattle.block_book.specs.Clauses.{IsShort}
-use Rattle.block_ledger.specs.Ledger.{Ledger, Segment, Counts, exit_at, view, linked_by}
+use Rattle.block_ledger.specs.Ledger.{Ledger, Segment, Counts, exit_at, view, linked_by, is_private, only}
 use Rattle.code_book.specs.Tables.{Held, Tables, and_then, leads, tabulated, exits_of, block_at, link_at}
 use Rattle.code_writes.specs.Meeting.{AreShort}
 use Rattle.code_book.specs.Keeping.{AreTied}
@@ -86,6 +86,10 @@ book segments index slots links lens block here left own blocks reused built lin
 -- the exit by which the block before was left leads to the address, whose block is the one begun last
 abbrev pub gone_on : ℕ → Ledger → Ledger
 gone_on a led = let after = linked_by led.left a led in record after { block = a; left = None }
+
+-- the private blocks go
+abbrev pub spared : Ledger → Ledger
+spared led = only (λ a. not (is_private led a)) led
 
 -- the address is not in the region
 abbrev pub outside : Range → ℕ → Bool
