@@ -1,0 +1,110 @@
+// What publications make of areas.
+use crate::shelves::{
+    NAME, NEW, OLD, ONE, TWO, bytes_of, changed, find, renew, unit_of, with_area,
+};
+use publish::laws::publish_two;
+use publish::{Loaded, PubErr, Verdict, close_gate, fill, load, open_gate};
+use shelf_model::{Area, MemShelf};
+use std::alloc::Global;
+use std::test::Fail;
+use unit_format::TextErr;
+use unit_set::Unit;
+
+#[test]
+fn first_publication(rt: HostRuntime) -> Result<(), Fail> {
+    let alloc = rt.alloc();
+    let unit = unit_of(alloc, &ONE)?;
+    let mut shelf = MemShelf::new(alloc);
+    let (a, b) = (Verdict::Empty, Verdict::Empty);
+    assert_eq!(rt; find(alloc, &mut shelf)?.loaded(), Loaded::Nothing { a, b });
+    assert_eq!(rt; renew(alloc, &mut shelf, &unit), Ok(Ok(3)));
+    assert_eq!(rt; bytes_of(&mut shelf, Area::A)?.as_slice(), TWO.as_slice());
+    assert_eq!(rt; bytes_of(&mut shelf, Area::B)?.len(), 0);
+    let (area, seq) = (Area::A, 1);
+    assert_eq!(rt;
+        find(alloc, &mut shelf)?.loaded(),
+        Loaded::Held { area, seq }
+    );
+    Ok(())
+}
+
+#[test]
+fn version_one_then_two(rt: HostRuntime) -> Result<(), Fail> {
+    let alloc = rt.alloc();
+    let unit = unit_of(alloc, &NEW)?;
+    let mut shelf = with_area(alloc, Area::A, &OLD)?;
+    assert_eq!(rt; renew(alloc, &mut shelf, &unit), Ok(Ok(3)));
+    assert_eq!(rt; bytes_of(&mut shelf, Area::A)?.as_slice(), OLD.as_slice());
+    assert_eq!(rt; bytes_of(&mut shelf, Area::B)?.as_slice(), NEW.as_slice());
+    Ok(())
+}
+
+#[test]
+fn short_area(rt: HostRuntime) -> Result<(), Fail> {
+    let alloc = rt.alloc();
+    let unit = unit_of(alloc, &ONE)?;
+    let mut shelf = with_area(alloc, Area::A, &ONE[..80])?;
+    let (a, b) = (Verdict::Text(TextErr::Short), Verdict::Empty);
+    assert_eq!(rt; find(alloc, &mut shelf)?.loaded(), Loaded::Nothing { a, b });
+    assert_eq!(rt; renew(alloc, &mut shelf, &unit), Ok(Ok(3)));
+    assert_eq!(rt; bytes_of(&mut shelf, Area::A)?.as_slice(), TWO.as_slice());
+    Ok(())
+}
+
+#[test]
+fn worn_out(rt: HostRuntime) -> Result<(), Fail> {
+    let alloc = rt.alloc();
+    let unit = unit_of(alloc, &NEW)?;
+    let file = changed(alloc, &OLD, 1, 8, 0xff)?;
+    let mut shelf = with_area(alloc, Area::A, &file)?;
+    assert_eq!(rt; renew(alloc, &mut shelf, &unit), Ok(Err(PubErr::WornOut)));
+    assert_eq!(rt; bytes_of(&mut shelf, Area::A)?.as_slice(), file.as_slice());
+    assert_eq!(rt; bytes_of(&mut shelf, Area::B)?.len(), 0);
+    Ok(())
+}
+
+#[test]
+fn the_three_stages(rt: HostRuntime) -> Result<(), Fail> {
+    let mut shelf = with_area(rt.alloc(), Area::A, &[0xa5, 7, 7, 7, 7])?;
+    assert_eq!(rt; close_gate(&mut shelf, NAME, Area::A), Ok(()));
+    assert_eq!(rt; fill(&mut shelf, NAME, Area::A, &[1, 2, 3]), Ok(()));
+    let closed = [0, 1, 2, 3, 7];
+    assert_eq!(rt;
+        bytes_of(&mut shelf, Area::A)?.as_slice(),
+        closed.as_slice()
+    );
+    assert_eq!(rt; open_gate(&mut shelf, NAME, Area::A), Ok(()));
+    let opened = [0xa5, 1, 2, 3, 7];
+    assert_eq!(rt;
+        bytes_of(&mut shelf, Area::A)?.as_slice(),
+        opened.as_slice()
+    );
+    Ok(())
+}
+
+// Two units of one slot, one after the other.
+fn renew_twice(
+    alloc: Global,
+    shelf: &mut MemShelf,
+    first: &Unit,
+    second: &Unit,
+) -> Result<u8, Fail> {
+    if !second.slot().is(first.slot()) {
+        return Err("two slots".into());
+    }
+    let mut standing = load(alloc, shelf, first.slot())
+        .map_err(|_| "no load")?
+        .standing;
+    Ok(publish_two(alloc, shelf, first, second, &mut standing).map_err(|_| "not published")?)
+}
+
+#[test]
+fn two_publications(rt: HostRuntime) -> Result<(), Fail> {
+    let alloc = rt.alloc();
+    let mut shelf = MemShelf::new(alloc);
+    let first = unit_of(alloc, &OLD)?;
+    let second = unit_of(alloc, &NEW)?;
+    assert_eq!(rt; renew_twice(alloc, &mut shelf, &first, &second)?, 3);
+    assert_eq!(rt; bytes_of(&mut shelf, Area::B)?.as_slice(), NEW.as_slice());
+    Ok(())
+}
