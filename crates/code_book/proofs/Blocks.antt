@@ -1,6 +1,6 @@
 -- The blocks of a unit, as a list and by address.
 use Rattle.std.proofs.Common.{◌≡◌, ℕ, zero, suc, ◌+◌, ◌-◌, ◌<◌, ◌≤◌, ◌==◌, ◌||◌, ◌&&◌, Bool, true, false, cond, List, [], ◌∷◌, ◌++◌, length, get_or, Option, Some, None, refl, sym, ◌∙◌, ap, subst, arith, is_lt}
-use Rattle.std.specs.Prelude.{is_some, map, drop, slice_get, IfSome, T, not, if◌then◌else◌}
+use Rattle.std.specs.Prelude.{is_some, map, drop, nat_le, nat_lt, slice_get, IfSome, T, not, if◌then◌else◌}
 use Rattle.std.specs.List.{flat_map}
 use Rattle.std.specs.Option.{option_or}
 use Rattle.std.specs.Ordering.{nat_cmp, eq_by_cmp}
@@ -9,6 +9,7 @@ use Rattle.std.specs.FinMap as fin
 use Rattle.std.specs.FinSet as set
 use Rattle.std.proofs.lemmas.Bool.Decides.{nat_tests}
 use Rattle.std.proofs.lemmas.Option.{slice_get-get_or}
+use Rattle.cc_base.specs.Image.{Code}
 use Rattle.cc_base.specs.Span.{Range}
 use Rattle.fragment.specs.Parts.{Parts}
 use Rattle.fragment.specs.declared.Exit.{Exit}
@@ -21,7 +22,7 @@ use Rattle.code_book.proofs.Leaving.{or_dead, only-live}
 use Rattle.merge_pass.specs.Segments.{segment_for}
 use Rattle.unit_set.specs.Held as unit
 use Rattle.unit_set.specs.Held.{addresses}
-use Rattle.code_book.specs.Whole.{AreBlocks, IsInside, has, entries_of, blocks_of, target_in, led_to, with_blocks, with_exits, with_links}
+use Rattle.code_book.specs.Whole.{IsClear, IsClearOf, region_of, AreBlocks, IsInside, has, entries_of, blocks_of, target_in, led_to, with_blocks, with_exits, with_links}
 use Rattle.code_book.proofs.Coming.{eq_apart}
 use Rattle.code_book.proofs.Ledgers.{same_blocks}
 use Rattle.code_book.proofs.Withdrawing.{eq_is}
@@ -78,8 +79,12 @@ sorted : (region : Range) (least : ℕ) (fs : List Parts) → AreBlocks region l
 sorted region least [] are = tt
 sorted region least (f ∷ fs) are = both _ _ (below_all region (f.address + 1) fs f.address (omega arith) are.2) (sorted region (f.address + 1) fs are.2)
 
+as-sorted : (region : Range) (least : ℕ) (fs : List Parts) → AreBlocks region least fs → blocks_of fs ≡ fin.from_sorted (entries_of fs)
+as-sorted region least fs are = same_blocks (blocks_of fs) (fin.from_sorted (entries_of fs)) (λ q.
+    fin.get-from_entries nat_cmp_total (entries_of fs) q ∙ sym (fin.get-from_sorted nat_cmp (entries_of fs) q (sorted region least fs are)))
+
 pub entries-are : (region : Range) (least : ℕ) (fs : List Parts) → AreBlocks region least fs → fin.entries (blocks_of fs) ≡ entries_of fs
-entries-are region least fs are = fin.entries-from_sorted nat_cmp (entries_of fs) (sorted region least fs are)
+entries-are region least fs are = ap fin.entries (as-sorted region least fs are) ∙ fin.entries-from_sorted nat_cmp (entries_of fs) (sorted region least fs are)
 
 -- ---- what the unit has
 
@@ -96,7 +101,7 @@ find_has [] a = refl
 find_has (f ∷ fs) a = ap (λ b. is_some (cond b (Some f) (fin.find nat_cmp a (entries_of fs)))) (eq_is a f.address (f.address == a) (turned a f.address)) ∙ has_by f fs a (f.address == a) refl (find_has fs a)
 
 pub got-has : (region : Range) (least : ℕ) (fs : List Parts) → AreBlocks region least fs → (a : ℕ) → is_some (fin.get (blocks_of fs) a) ≡ has fs a
-got-has region least fs are a = ap is_some (fin.get-from_sorted nat_cmp (entries_of fs) a (sorted region least fs are)) ∙ find_has fs a
+got-has region least fs are a = ap is_some (fin.get-from_entries nat_cmp_total (entries_of fs) a) ∙ find_has fs a
 
 -- ---- maps with entries added
 
@@ -116,6 +121,13 @@ got-all m [] q = ap (λ n. fin.get n q) (with-none m)
 got-all m (e ∷ es) q = got-insert (with_all m es) e.0 e.1 q ∙ ap (λ o. cond (eq_by_cmp nat_cmp q e.0) (Some e.1) o) (got-all m es q) ∙ or_cond (eq_by_cmp nat_cmp q e.0) e.1 (fin.find nat_cmp q es) (fin.get m q)
 
 -- ---- the blocks come
+
+is_true : (b : Bool) → not b ≡ false → b ≡ true
+is_true true e = refl
+is_true false e = absurd (cc)
+
+pub clear-of : (image : Code) (led : Ledger) → IsClear image led → IsClearOf (region_of image) led
+clear-of image led clear a out = clear a (is_true (nat_le image.start a && nat_lt a (image.start + length image.bytes)) out)
 
 pub blocks-none : (led : Ledger) → with_blocks [] led ≡ led
 blocks-none led = ap (λ m. record led { shared = m }) (with-none led.shared)

@@ -5,7 +5,7 @@ use Rattle.std.specs.Option.{option_map, option_or}
 use Rattle.std.specs.FinMap as fin
 use Rattle.exit_links.specs.Linked.{linked}
 use Rattle.fragment.specs.Parts.{Parts}
-use Rattle.block_ledger.specs.Ledger.{new_ledger}
+use Rattle.block_ledger.specs.Ledger.{is_live, new_ledger}
 use Rattle.block_ledger.proofs.Gets.{got-empty, len-none}
 use Rattle.code_book.specs.Tables.{Held, and_then, address_at, block_at, if_shared}
 use Rattle.code_book.specs.Book.{Book, IsKept, book, tables, ledger, size_of}
@@ -59,3 +59,6 @@ nothing-kept = record {
     none_held : (p : ℕ) → is_some (get_or {A = Option Held} [] p None) ≡ true → ⊥
     none_held zero e = absurd (cc)
     none_held (suc p) e = absurd (cc)
+
+pub none-live : (a : ℕ) → is_live new_ledger a ≡ false
+none-live a = λ i. is_some (option_or (got-empty {X = Parts} a i) (got-empty {X = Parts} a i))

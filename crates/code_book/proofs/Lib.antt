@@ -18,3 +18,5 @@ pub mod Unmapping
 pub mod Walking
 pub mod Unlinking
 pub mod UnitBlocks
+pub mod Offering
+pub mod Building

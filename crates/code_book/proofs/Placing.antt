@@ -73,8 +73,8 @@ module _ (old : Book) (kept : IsKept old) (f : Parts) (p : ℕ) (absent : is_liv
         let size : size_of f ≡ len = some_same (size_of f) len e in
         let there : a ≡ f.address = eq_true a f.address is in
         let some = short.some in
-        let within = short.within in
-        let few = short.short in
+        let within = short.ends in
+        let few = short.few in
         (omega (arith, size, some), omega (arith, size, few), omega (arith, size, there, within))
     short_by a len false is e = kept.short a len e
 

@@ -86,7 +86,7 @@ is_inside slot image f named fits fresh =
     record {
       from = omega (arith, first.0);
       below = omega (arith, first.1);
-      short = record { some = is.not_empty; short = omega (arith, is.at_most, named.most); within = omega (arith, end.1, fits.2, is.not_empty) };
+      short = record { some = is.not_empty; few = omega (arith, is.at_most, named.most); ends = omega (arith, end.1, fits.2, is.not_empty) };
       exits = subst (λ (es : List Exit). length es ≤ 2) (sym is.exits) (few _ _);
     }
 

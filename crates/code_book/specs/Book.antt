@@ -6,8 +6,9 @@ use Rattle.std.specs.FinMap as fin
 use Rattle.cc_base.specs.Span.{Range}
 use Rattle.exit_links.specs.Linked.{Linked}
 use Rattle.fragment.specs.Parts.{Parts}
-use Rattle.block_ledger.specs.Ledger.{Ledger, Segment, Counts, exit_at, view, linked_by}
-use Rattle.code_book.specs.Tables.{Held, Tables, leads, tabulated, exits_of, block_at, link_at}
+pub use Rattle.block_book.specs.Clauses.{IsShort}
+use Rattle.block_ledger.specs.Ledger.{Ledger, Segment, Counts, exit_at, view, linked_by, is_private, only}
+use Rattle.code_book.specs.Tables.{Held, Tables, and_then, leads, tabulated, exits_of, block_at, link_at}
 use Rattle.code_writes.specs.Meeting.{AreShort}
 use Rattle.code_book.specs.Keeping.{AreTied}
 
@@ -50,6 +51,10 @@ ledger k = record {
   counts = k.counts;
 }
 
+-- where the exit leads by which the block begun last was left, if that has a place still
+abbrev pub next_of : Book → Option ℕ
+next_of k = and_then k.here (λ p. and_then k.left (λ e. leads k.links (2 * p + e)))
+
 abbrev pub size_of : Parts → ℕ
 size_of f = 4 * length f.words
 
@@ -63,12 +68,6 @@ pub record IsKept (k : Book) : Type 0 where
   -- the links have the place of each block
   pub room : (p : ℕ) → is_some ((tables k).held p) ≡ true → p < k.links.places
   pub counts : (k.counts.reused ≤ k.counts.blocks) × (k.counts.built ≤ k.counts.blocks) × (k.counts.linked ≤ k.counts.blocks) × (k.own ≤ k.counts.built)
-
--- a block that can lie in memory
-pub record IsShort (f : Parts) : Type 0 where
-  pub some : 0 < length f.words
-  pub short : size_of f ≤ 256
-  pub within : f.address + size_of f ≤ 4294967295
 
 -- the book that these fields are
 abbrev pub book : fin.FinMap nat_cmp Segment → fin.FinMap nat_cmp ℕ → List (Option Held) → Linked → fin.FinMap nat_cmp ℕ → ℕ → Option ℕ → Option ℕ → ℕ → ℕ → ℕ → ℕ → ℕ → Book
@@ -87,6 +86,10 @@ book segments index slots links lens block here left own blocks reused built lin
 -- the exit by which the block before was left leads to the address, whose block is the one begun last
 abbrev pub gone_on : ℕ → Ledger → Ledger
 gone_on a led = let after = linked_by led.left a led in record after { block = a; left = None }
+
+-- the private blocks go
+abbrev pub spared : Ledger → Ledger
+spared led = only (λ a. not (is_private led a)) led
 
 -- the address is not in the region
 abbrev pub outside : Range → ℕ → Bool

@@ -5,3 +5,4 @@ pub mod Whole
 pub mod Regions
 pub mod Own
 pub mod View
+pub mod Laws

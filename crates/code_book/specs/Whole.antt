@@ -1,5 +1,5 @@
 -- The blocks of a unit, rising by address, and what an attach brings.
-use Rattle.std.specs.Prelude.{◌≡◌, ℕ, ◌+◌, ◌<◌, ◌≤◌, ◌==◌, Bool, false, List, [], ◌∷◌, length, if◌then◌else◌, Option, Some, None}
+use Rattle.std.specs.Prelude.{◌≡◌, ℕ, ◌+◌, ◌<◌, ◌≤◌, ◌==◌, Bool, false, List, [], ◌∷◌, length, map, if◌then◌else◌, Option, Some, None}
 use Rattle.std.specs.List.{list_any, flat_map}
 use Rattle.std.specs.FinMap as fin
 use Rattle.cc_base.specs.Image.{Code}
@@ -7,6 +7,7 @@ use Rattle.cc_base.specs.Span.{Range}
 use Rattle.fragment.specs.Parts.{Parts}
 use Rattle.fragment.specs.declared.Exit.{Exit}
 use Rattle.fragment.specs.declared.Exit.TheVariants.{Direct, Indirect, Asks, Stop}
+pub use Rattle.block_book.specs.Clauses.{blocks_of, IsClear}
 use Rattle.block_ledger.specs.Ledger.{Ledger, Blocks, with_all, links_of, exit_at, is_live}
 use Rattle.code_book.specs.Book.{IsShort, outside}
 
@@ -16,9 +17,6 @@ region_of image = record { start = image.start; len = length image.bytes }
 -- no live block begins in the region
 abbrev pub IsClearOf : Range → Ledger → Type 0
 IsClearOf region led = (a : ℕ) → outside region a ≡ false → is_live led a ≡ false
-
-abbrev pub IsClear : Code → Ledger → Type 0
-IsClear image led = IsClearOf (region_of image) led
 
 -- a block that begins in the region
 pub record IsInside (region : Range) (f : Parts) : Type 0 where
@@ -37,12 +35,7 @@ abbrev pub has : List Parts → ℕ → Bool
 has fs a = list_any (λ f. f.address == a) fs
 
 abbrev pub entries_of : List Parts → List (ℕ × Parts)
-entries_of [] = []
-entries_of (f ∷ fs) = (f.address, f) ∷ entries_of fs
-
--- the blocks, by address
-abbrev pub blocks_of : List Parts → Blocks
-blocks_of fs = fin.from_sorted (entries_of fs)
+entries_of fs = map (λ f. (f.address, f)) fs
 
 -- where an exit leads, if a block is there
 abbrev pub target_in : List Parts → Option Exit → Option ℕ

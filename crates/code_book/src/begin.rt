@@ -3,7 +3,7 @@ ghost use Rattle.std.specs.Prelude.{◌≡◌, ◌<◌, ◌≤◌, ◌+◌, ℕ,
 ghost use Rattle.std.specs.FinMap as fin;
 ghost use Rattle.fragment.specs.Parts.{Parts};
 ghost use Rattle.block_ledger.specs.Ledger.{begun, is_live, left_by, linked_by, counted};
-ghost use Rattle.code_book.specs.Book.{gone_on};
+ghost use Rattle.code_book.specs.Book.{gone_on, next_of};
 ghost use Rattle.code_book.specs.Tables.{and_then, is_shared_in};
 ghost use Rattle.code_book.specs.View.{book_of, ledger_of};
 
@@ -19,13 +19,26 @@ impl CodeBook {
         self.left = exit;
     }
 
-    /// The place of the block at an address. Where the block before was left by an exit that is linked and leads there,
-    /// it is found without a search.
-    fn place_for(&self, addr: u32) -> Option<u32>
+    // Where the exit leads by which the block before was left.
+    #[inline]
+    pub(crate) fn next_place(&self) -> Option<u32>
+        ensures { result ≡ next_of (book_of self.now) }
+    {
+        let Some(from) = self.here else {
+            return None;
+        };
+        let Some(exit) = self.left else {
+            return None;
+        };
+        follow(&self.links, from, exit)
+    }
+
+    // The place of the block at an address. Where it lies in the place given, it is found without a search.
+    #[inline]
+    fn place_for(&self, next: Option<u32>, addr: u32) -> Option<u32>
         ensures { result ≡ fin.get self.now.places.index addr }
     {
-        if let (Some(from), Some(exit)) = (self.here, self.left)
-            && let Some(place) = follow(&self.links, from, exit)
+        if let Some(place) = next
             && self.places.slots.lies_at(place, addr)
         {
             return Some(place);
@@ -40,13 +53,15 @@ impl CodeBook {
         ensures places { self.new.places ≡ self.old.places }
         ensures linked { self.new.counts.linked < self.new.counts.blocks }
         ensures few { self.new.counts.blocks ≤ 18446744073709551615 }
+        ensures next { next_of (book_of self.new) ≡ next_of (book_of self.old) }
     {
         self.counts.blocks += 1;
         self.counts.reused += if shared { 1 } else { 0 };
     }
 
-    // The exit by which the block before was left leads to the address, which has this place.
-    pub(crate) fn link_to(&mut self, addr: u32, place: u32)
+    // The exit by which the block before was left leads to the address, which has this place. Before it led to `next`.
+    pub(crate) fn link_to(&mut self, next: Option<u32>, addr: u32, place: u32)
+        requires next { next ≡ next_of (book_of self.old) }
         requires place { fin.get self.old.places.index addr ≡ Some place }
         requires linked { self.old.counts.linked < self.old.counts.blocks }
         requires few { self.old.counts.blocks ≤ 18446744073709551615 }
@@ -59,7 +74,7 @@ impl CodeBook {
         let Some(exit) = self.left else {
             return;
         };
-        if follow(&self.links, from, exit).is_some() {
+        if next.is_some() {
             self.counts.linked += 1;
         } else {
             link(&mut self.links, from, exit, place);
@@ -83,12 +98,13 @@ impl CodeBook {
         ensures begun { result ≡ true → (f : Parts) → f.address ≡ addr → ledger_of self.new ≡ begun f (ledger_of self.old) }
         ensures same { result ≡ false → ledger_of self.new ≡ ledger_of self.old }
     {
-        let Some(place) = self.place_for(addr) else {
+        let next = self.next_place();
+        let Some(place) = self.place_for(next, addr) else {
             return false;
         };
         let shared = self.places.slots.is_shared(place);
         self.count(shared);
-        self.link_to(addr, place);
+        self.link_to(next, addr, place);
         self.stand_at(addr, place);
         true
     }

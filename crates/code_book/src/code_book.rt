@@ -28,6 +28,9 @@ pub struct CodeBook {
     pub(crate) here: Option<u32>,
     pub(crate) left: Option<u8>,
     pub(crate) own: u64,
+    // Where blocks of the process's own came to lie since the last flush. No fact rests on it: an address is tested before
+    // it is used, and a flush looks at all live blocks where it misses one.
+    pub(crate) owned: Vec<u32>,
     pub(crate) counts: Counts,
     ghost kept: { IsKept (book segments places.index places.slots links covers block here left own counts.blocks counts.reused counts.built counts.linked) },
 }

@@ -1,13 +1,11 @@
-// The struct that meets `Book`.
-ghost use Rattle.std.specs.Prelude.{◌≡◌, option_map};
-ghost use Rattle.block_ledger.specs.Ledger.{view};
+// The struct meets `Book`.
 ghost use Rattle.code_book.specs.View.{ledger_of};
 
-use crate::book::Book;
 use crate::code_book::CodeBook;
+use block_book::Book;
 use cc_base::Span;
 use fragment::Fragment;
-use std::alloc::AllocError;
+use std::alloc::{AllocError, Global};
 use std::sync::Arc;
 use unit_set::Unit;
 
@@ -46,7 +44,11 @@ impl Book for CodeBook {
         self.attach_unit(number, unit)
     }
 
-    fn unplace(&mut self, number: u32, regions: &[Span]) {
-        self.unmap(number, regions);
+    fn segments(&self, alloc: Global) -> Result<Vec<u32>, AllocError> {
+        self.segment_numbers(alloc)
+    }
+
+    fn offer(&mut self, alloc: Global, segment: u32) -> Result<Vec<Fragment>, AllocError> {
+        self.offer_to(alloc, segment)
     }
 }

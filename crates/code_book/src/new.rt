@@ -32,6 +32,7 @@ impl CodeBook {
             here: None,
             left: None,
             own: 0,
+            owned: Vec::new(alloc),
             counts,
         })
     }

@@ -64,10 +64,23 @@ impl CodeBook {
         let place = self.reserve()?;
         let addr = block.addr();
         self.settle(place, block)?;
-        self.link_to(addr, place);
+        let next = self.next_place();
+        self.link_to(next, addr, place);
         self.stand_at(addr, place);
+        list(&mut self.owned, addr);
         Ok(())
     }
+}
+
+/// The most addresses of own blocks that are listed.
+const MOST_LISTED: usize = 131_072;
+
+// The address is listed. Where the list is long, as of a guest that writes its own code, it begins anew.
+fn list(owned: &mut Vec<u32>, addr: u32) {
+    if owned.len() >= MOST_LISTED {
+        owned.clear();
+    }
+    let _ = owned.push(addr);
 }
 
 // The place of the block begun last, which may be this one.

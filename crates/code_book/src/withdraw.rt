@@ -2,7 +2,7 @@
 ghost use Rattle.std.specs.Prelude.{◌≡◌, ◌==◌, ◌<◌, ◌-◌, cond, not, true, false, None};
 ghost use Rattle.std.specs.FinMap as fin;
 ghost use Rattle.block_ledger.specs.Ledger.{only, is_live, is_private, flushed, written};
-ghost use Rattle.code_book.specs.Book.{outside};
+ghost use Rattle.code_book.specs.Book.{outside, spared};
 ghost use Rattle.code_book.specs.View.{ledger_of};
 
 use crate::code_book::CodeBook;
@@ -27,10 +27,34 @@ impl CodeBook {
         }
     }
 
-    /// The private blocks go, and it is forgotten how the block begun last was left. It takes no memory.
+    /// The private blocks go, and it is forgotten how the block begun last was left. It takes no memory, and costs what the
+    /// pool holds where the list of own blocks misses none.
     pub fn withdraw_own(&mut self)
         ensures { ledger_of self.new ≡ flushed (ledger_of self.old) }
     {
+        self.withdraw_listed();
+        self.withdraw_rest();
+        self.leave_by(None);
+    }
+
+    // The private blocks that are listed go.
+    fn withdraw_listed(&mut self)
+        ensures { spared (ledger_of self.new) ≡ spared (ledger_of self.old) }
+    {
+        while let Some(addr) = self.owned.pop() {
+            if self.own_at(addr).is_some() {
+                self.withdraw(addr);
+            }
+        }
+    }
+
+    // The other private blocks go, if there are any.
+    fn withdraw_rest(&mut self)
+        ensures { ledger_of self.new ≡ spared (ledger_of self.old) }
+    {
+        if self.own == 0 {
+            return;
+        }
         let mut from = 0;
         while let Some(addr) = self.covers.first_meeting(EVERYWHERE, from) {
             if self.is_own(addr) {
@@ -38,7 +62,6 @@ impl CodeBook {
             }
             from = addr + 1;
         }
-        self.leave_by(None);
     }
 
     /// A region of code goes: the blocks that begin in it go. It takes no memory.
@@ -72,6 +95,7 @@ impl CodeBook {
         requires { is_live (ledger_of self.old) addr ≡ true }
         ensures ledger { ledger_of self.new ≡ only (λ a. not (a == addr)) (ledger_of self.old) }
         ensures covers { self.new.covers ≡ fin.remove self.old.covers addr }
+        ensures owned { self.new.owned ≡ self.old.owned }
     {
         let Some(place) = self.places.find(addr) else {
             return;

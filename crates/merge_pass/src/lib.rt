@@ -6,6 +6,8 @@
 
 mod attached;
 mod segments;
+#[cfg(test)]
+mod tests;
 mod words;
 
 pub use attached::Attached;

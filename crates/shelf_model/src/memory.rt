@@ -35,7 +35,7 @@ pub struct Call {
 /// every moment, which is a number of calls. Where memory runs out, the call is not done.
 #[derive(Drop)]
 pub struct MemShelf {
-    pub(crate) alloc: Global,
+    alloc: Global,
     calls: Vec<Call>,
 }
 

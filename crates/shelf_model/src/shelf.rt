@@ -41,7 +41,7 @@ impl<T: Drop> From<AllocFailed<T>> for ShelfErr {
     }
 }
 
-/// Two areas of bytes under each name, both empty at first. Names are slot names.
+/// Two areas of bytes under each name, which is that of a slot. An absent file is an empty area.
 pub trait Shelf {
     /// What a read of an area gives, where that is told.
     ghost told: { Self → List ℕ → Area → Option (List ℕ) };

@@ -1,8 +1,8 @@
 //! The text of a unit, in two versions: the grammar of both, reading with the first failure, and writing the newer one.
 //!
-//! It stands on `unit_set`, `fragment`, `probe_tools`, `rv_decode` and `cc_base`. The layers above use:
+//! It stands on `unit_set`, `fragment`, `probe_tools`, `rv_decode`, `cc_base` and `byteorder`. The layers above use:
 //! `Spells` is the grammar over whole byte strings; [`read_unit`] answers what is spelled, or else the first failure by
-//! `unit_of`; [`write_unit`] appends `text` of version 2; [`laws`] says that no text begins another, how long one can be,
+//! `unit_of`; [`write_unit`] appends `text` of version 2, or leaves what was there; [`laws`] says that no text begins another, how long one can be,
 //! and which refusals stand whatever follows.
 #![tactic(auto)]
 

@@ -160,8 +160,10 @@ fn two_instructions(alloc: Global) -> Result<Unit, Fail> {
 #[test]
 fn a_unit_is_written_in_version_2(rt: HostRuntime) -> Result<(), Fail> {
     let alloc = rt.alloc();
+    let unit = two_instructions(alloc)?;
     let mut text = Vec::new(alloc);
-    write_unit(&two_instructions(alloc)?, &mut text)?;
+    write_unit(&unit, &mut text)?;
     assert_eq!(rt; text.as_slice(), TWO.as_slice());
+    assert_eq!(rt; text_len(&unit), 71);
     Ok(())
 }

@@ -132,6 +132,13 @@ impl Unit {
         place_of(self.addrs(), addr)
     }
 
+    /// Whether it has a fragment at an address.
+    pub fn has(&self, addr: u32) -> bool
+        ensures { result ≡ has addr (addresses self.now.frags) }
+    {
+        has_addr(self.addrs(), addr)
+    }
+
     /// The fragment at a place.
     pub fn fragment(&self, pos: u32) -> &Fragment
         requires { pos < length self.now.frags }

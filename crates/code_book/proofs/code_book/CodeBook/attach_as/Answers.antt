@@ -5,7 +5,7 @@ use Rattle.merge_pass.specs.Segments.{segment_for}
 use Rattle.code_book.specs.Book.{ledger, outside}
 use Rattle.code_book.specs.View.{book_of, ledger_of}
 use Rattle.code_book.specs.Whole.{region_of, with_blocks, with_links}
-use Rattle.code_book.proofs.Blocks.{blocks-live, attached-is, undone}
+use Rattle.code_book.proofs.Blocks.{blocks-live, clear-of, attached-is, undone}
 use Rattle.code_book.proofs.code_book.CodeBook.attach_as.Goals as goal
 
 pub returns-in-Err-clause-err : goal.returns-in-Err-clause-err
@@ -16,7 +16,7 @@ returns-in-Err-clause-err c =
     c.withdraw_region.ensures
     ∙ (λ i. only (outside (c.region_of-region.ensures i)) (ledger (record (book_of c.place_all.new.self) { segments = c.in-Err.ensures.err i })))
     ∙ ap (only (outside (region_of unit.image))) came
-    ∙ undone (book_of c.args.self.now) c.args.self.now.kept (region_of unit.image) unit.frags (record { least = 0; rest = c.blocks_of.ensures.inside }) c.requires.clear
+    ∙ undone (book_of c.args.self.now) c.args.self.now.kept (region_of unit.image) unit.frags (record { least = 0; rest = c.blocks_of.ensures.inside }) (clear-of unit.image (ledger_of c.args.self.now) c.requires.clear)
 
 pub lead_all-requires : goal.lead_all-requires
 lead_all-requires c =

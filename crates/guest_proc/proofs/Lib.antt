@@ -1,0 +1,9 @@
+pub mod Put
+pub mod Kept
+pub mod Marks
+pub mod Blocks
+pub mod Calling
+pub mod One
+pub mod Beginning
+pub mod More
+pub mod Starting

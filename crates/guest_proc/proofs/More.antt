@@ -1,0 +1,98 @@
+-- Blocks one after the other.
+use Rattle.std.proofs.Common.{◌≡◌, ◌+◌, ◌<◌, ◌≤◌, ◌⊎◌, arith, ℕ, Bool, true, false, List, [], ◌∷◌, ◌++◌, length, Option, Some, None, Result, Ok, Err, refl, sym, ◌∙◌, ap, subst, inl, inr, append_assoc}
+use Rattle.std.proofs.lemmas.List.{append-nil, length-append}
+use Rattle.std.proofs.lemmas.List.Concat.{flat_map-append}
+use Rattle.plain_machine.specs.Machine.{State, Setting}
+use Rattle.plain_machine.specs.Cut.{Marked, with_marks}
+use Rattle.plain_machine.specs.Events.{events, seen}
+use Rattle.engine.specs.Seeing.{with_events}
+use Rattle.engine.proofs.Counting.{events-counted}
+use Rattle.block_build.specs.Making.{Taken}
+use Rattle.block_ledger.specs.Traced.{Scheme, Trace, traced, after}
+use Rattle.guest_proc.specs.declared.stop.Stop.{Stop}
+use Rattle.guest_proc.specs.declared.stop.Stop.TheVariants as stop
+use Rattle.guest_proc.specs.Begun.{AreMade}
+use Rattle.guest_proc.specs.Kept.{Keeps}
+use Rattle.guest_proc.specs.Process.{CameToWant, Comes, GoesOn, Process, RanOn, RanOne, StopsIn, WantsMemory, Went, nothing, onward, stop_of, trace}
+
+traced_append : (w : Setting) (scheme : Scheme) (xs ys : List (State × Bool)) (t : Trace) → traced w scheme (xs ++ ys) t ≡ traced w scheme ys (traced w scheme xs t)
+traced_append w scheme [] ys t = refl
+traced_append w scheme (x ∷ xs) ys t = traced_append w scheme xs ys (after w scheme x t)
+
+with_more : (xs ys : List (State × Bool)) (v : Marked) → with_marks xs (with_marks ys v) ≡ with_marks (xs ++ ys) v
+with_more xs ys v = ap (λ zs. record v { marks = zs }) (sym (append_assoc xs ys v.marks))
+
+-- what was run up to mid, and what is run from there
+pub went-both : (scheme : Scheme) (old mid new : Process) (change : Setting → Trace → Trace) (behind : Setting → List ℕ → Marked) →
+    GoesOn scheme old mid → Went scheme mid new change behind → Went scheme old new change behind
+went-both scheme old mid new change behind a b = record {
+  marks = a.marks ++ b.marks;
+  seen = λ w answers. a.seen w answers ∙ ap (with_marks a.marks) (b.seen w answers) ∙ with_more a.marks b.marks (behind w answers);
+  counted = events-counted (events scheme.tool a.marks) (events scheme.tool b.marks) old.report mid.report new.report a.counted b.counted
+      ∙ ap (λ es. with_events es old.report) (sym (flat_map-append (seen scheme.tool) a.marks b.marks));
+  ledger = λ w maps units calls. traced_append w scheme a.marks b.marks (trace old.ledger maps units calls) ∙ ap (traced w scheme b.marks) (a.ledger w maps units calls) ∙ b.ledger w maps units calls;
+}
+
+pub no-blocks : (scheme : Scheme) (p : Process) → GoesOn scheme p p
+no-blocks scheme p = record { marks = []; seen = λ w answers. refl; counted = refl; ledger = λ w maps units calls. refl }
+
+stops-both : (scheme : Scheme) (old mid new : Process) (s : Stop) → GoesOn scheme old mid → StopsIn scheme mid new s → StopsIn scheme old new s
+stops-both scheme old mid new (stop.Ended end) a b = went-both scheme old mid new nothing _ a b
+stops-both scheme old mid new (stop.Map k) a b = went-both scheme old mid new _ _ a b
+stops-both scheme old mid new (stop.Unmap k) a b = went-both scheme old mid new _ _ a b
+stops-both scheme old mid new (stop.Replace k f) a b = went-both scheme old mid new _ _ a b
+stops-both scheme old mid new stop.PoolFull a b = absurd b
+
+comes-both : (scheme : Scheme) (old mid new : Process) (s : Stop) → GoesOn scheme old mid → Comes scheme mid new s → Comes scheme old new s
+comes-both scheme old mid new s a (inl on) = inl (went-both scheme old mid new nothing _ a on.0, on.1)
+comes-both scheme old mid new s a (inr within) = inr (stops-both scheme old mid new s a within)
+
+-- ---- what a loop of blocks keeps
+
+pub record WentOn (scheme : Scheme) (old new : Process) : Type 0 where
+  pub goes : GoesOn scheme old new
+  pub spends : (new ≡ old) ⊎ (new.fuel < old.fuel)
+
+pub start-on : (scheme : Scheme) (p : Process) → WentOn scheme p p
+start-on scheme p = record { goes = no-blocks scheme p; spends = inl refl }
+
+less_fuel : (old mid new : Process) → (mid ≡ old) ⊎ (mid.fuel < old.fuel) → new.fuel < mid.fuel → new.fuel < old.fuel
+less_fuel old mid new (inl same) less = subst (λ (p : Process). new.fuel < p.fuel) same less
+less_fuel old mid new (inr before) less = omega (arith, before, less)
+
+-- one more block
+pub one-more-on : (scheme : Scheme) (old mid new : Process) → WentOn scheme old mid → RanOne scheme mid new None → WentOn scheme old new
+one-more-on scheme old mid new a b = record { goes = went-both scheme old mid new nothing _ a.goes b.1; spends = inr (less_fuel old mid new a.spends b.0.less) }
+
+-- and the stop
+pub stop-on : (scheme : Scheme) (old mid new : Process) (s : Stop) → WentOn scheme old mid → RanOne scheme mid new (Some s) → RanOn scheme old new s
+stop-on scheme old mid new s a (inl before) =
+    let there = subst (λ p. WentOn scheme old p) (sym before.0) a in
+    record {
+      comes = inl (there.goes, ap (stop_of scheme.pool) before.0 ∙ before.1);
+      spends = elim there.spends [
+        | inl same ↦ inl (same, ap (stop_of scheme.pool) (sym same ∙ before.0) ∙ before.1)
+        | inr less ↦ inr less
+      ];
+    }
+stop-on scheme old mid new s a (inr behind) = record { comes = comes-both scheme old mid new s a.goes behind.1; spends = inr (less_fuel old mid new a.spends behind.0.less) }
+
+pub came-to-want : (scheme : Scheme) (old mid : Process) → WentOn scheme old mid → WantsMemory scheme mid → CameToWant scheme old
+came-to-want scheme old mid a wants = record { reached = mid; went = a.goes; wants = wants }
+
+pub keeps-all : (p : Process) → Keeps p p
+keeps-all p = record { images = λ i. refl; mapped = refl; stand = λ x kind s. s }
+
+pub keeps-both : (old mid new : Process) → Keeps old mid → Keeps mid new → Keeps old new
+keeps-both old mid new a b = record { images = λ i. b.images i ∙ a.images i; mapped = b.mapped ∙ a.mapped; stand = λ x kind s. b.stand x kind (a.stand x kind s) }
+
+pub made-none : (built steps : ℕ) (taken : Taken) → AreMade built built steps steps taken taken
+made-none built steps taken = record { later = omega arith; more = []; took = sym (append-nil taken); sum = omega arith }
+
+pub made-both : (built mid after steps between now : ℕ) (taken some last : Taken) → AreMade built mid steps between taken some → AreMade mid after between now some last → AreMade built after steps now taken last
+made-both built mid after steps between now taken some last a b = record {
+  later = omega (arith, a.later, b.later);
+  more = a.more ++ b.more;
+  took = b.took ∙ ap (λ xs. xs ++ b.more) a.took ∙ append_assoc taken a.more b.more;
+  sum = omega (arith, a.sum, b.sum, length-append a.more b.more);
+}

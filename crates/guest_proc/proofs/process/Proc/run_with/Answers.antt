@@ -1,0 +1,43 @@
+use Rattle.std.proofs.Common.{◌≡◌, ◌∙◌, ◌⊎◌, true, Some, None, refl, sym, subst, inl, inr}
+use Rattle.guest_proc.specs.Kept.{process_of, scheme_of}
+use Rattle.guest_proc.specs.Process.{CameToWant, RanOne, WantsMemory}
+use Rattle.guest_proc.proofs.More.{came-to-want, keeps-all, keeps-both, made-both, made-none, one-more-on, start-on, stop-on}
+use Rattle.guest_proc.proofs.One.{any_err}
+use Rattle.guest_proc.proofs.process.Proc.run_with.Goals as goal
+
+pub loop-stop-init : goal.loop-stop-init
+loop-stop-init g c = record {
+  scheme = refl;
+  spent = refl;
+  went = start-on (scheme_of c.args.self.now.at c.args.self.now.limits) (process_of c.args.self.now.at (g.B.Book.ledger c.args.self.now.book));
+  keeps = keeps-all (process_of c.args.self.now.at (g.B.Book.ledger c.args.self.now.book));
+  made = made-none (g.B.Book.ledger c.args.self.now.book).counts.built c.args.steps.now (g.M.Maker.taken c.args.maker.now);
+}
+
+pub returns-in_err-stop-clause-wants : goal.returns-in_err-stop-clause-wants
+returns-in_err-stop-clause-wants g c =
+    let wants : (c.args.self.now.spent ≡ true) ⊎ CameToWant (scheme_of c.args.self.now.at c.args.self.now.limits) (process_of c.args.self.now.at (g.B.Book.ledger c.args.self.now.book)) = elim c.in_err-stop.ensures.wants [
+      | inl spent ↦ inl (sym c.loop-stop.invariant.spent ∙ spent)
+      | inr here ↦ inr (came-to-want (scheme_of c.args.self.now.at c.args.self.now.limits) (process_of c.args.self.now.at (g.B.Book.ledger c.args.self.now.book)) (process_of c.loop-stop.self.at (g.B.Book.ledger c.loop-stop.self.book)) c.loop-stop.invariant.went (subst (λ s. WantsMemory s (process_of c.loop-stop.self.at (g.B.Book.ledger c.loop-stop.self.book))) c.loop-stop.invariant.scheme here))
+    ] in
+    any_err c.from_residual.result _ wants
+
+pub returns-in-Some-clause-ran : goal.returns-in-Some-clause-ran
+returns-in-Some-clause-ran g c =
+    let here : RanOne (scheme_of c.args.self.now.at c.args.self.now.limits) (process_of c.loop-stop.self.at (g.B.Book.ledger c.loop-stop.self.book)) (process_of c.run_one.new.self.at (g.B.Book.ledger c.run_one.new.self.book)) c.in_ok-stop.field-0 = subst (λ s. RanOne s (process_of c.loop-stop.self.at (g.B.Book.ledger c.loop-stop.self.book)) (process_of c.run_one.new.self.at (g.B.Book.ledger c.run_one.new.self.book)) c.in_ok-stop.field-0) c.loop-stop.invariant.scheme c.in_ok-stop.ensures.ran in
+    stop-on (scheme_of c.args.self.now.at c.args.self.now.limits) (process_of c.args.self.now.at (g.B.Book.ledger c.args.self.now.book)) (process_of c.loop-stop.self.at (g.B.Book.ledger c.loop-stop.self.book)) (process_of c.run_one.new.self.at (g.B.Book.ledger c.run_one.new.self.book)) c.in-Some.stop c.loop-stop.invariant.went (subst (λ o. RanOne (scheme_of c.args.self.now.at c.args.self.now.limits) (process_of c.loop-stop.self.at (g.B.Book.ledger c.loop-stop.self.book)) (process_of c.run_one.new.self.at (g.B.Book.ledger c.run_one.new.self.book)) o) c.in-Some.is here)
+
+pub returns-in-Some-clause-keeps : goal.returns-in-Some-clause-keeps
+returns-in-Some-clause-keeps g c = keeps-both (process_of c.args.self.now.at (g.B.Book.ledger c.args.self.now.book)) (process_of c.loop-stop.self.at (g.B.Book.ledger c.loop-stop.self.book)) (process_of c.run_one.new.self.at (g.B.Book.ledger c.run_one.new.self.book)) c.loop-stop.invariant.keeps c.in_ok-stop.ensures.keeps
+
+pub loop-stop-preserved : goal.loop-stop-preserved
+loop-stop-preserved g c =
+    let here : RanOne (scheme_of c.args.self.now.at c.args.self.now.limits) (process_of c.loop-stop.self.at (g.B.Book.ledger c.loop-stop.self.book)) (process_of c.run_one.new.self.at (g.B.Book.ledger c.run_one.new.self.book)) c.in_ok-stop.field-0 = subst (λ s. RanOne s (process_of c.loop-stop.self.at (g.B.Book.ledger c.loop-stop.self.book)) (process_of c.run_one.new.self.at (g.B.Book.ledger c.run_one.new.self.book)) c.in_ok-stop.field-0) c.loop-stop.invariant.scheme c.in_ok-stop.ensures.ran in
+    record {
+      scheme = c.run_one.ensures.scheme ∙ c.loop-stop.invariant.scheme;
+      spent = c.in_ok-stop.ensures.lasts ∙ c.loop-stop.invariant.spent;
+      went = one-more-on (scheme_of c.args.self.now.at c.args.self.now.limits) (process_of c.args.self.now.at (g.B.Book.ledger c.args.self.now.book)) (process_of c.loop-stop.self.at (g.B.Book.ledger c.loop-stop.self.book)) (process_of c.run_one.new.self.at (g.B.Book.ledger c.run_one.new.self.book)) c.loop-stop.invariant.went (subst (λ o. RanOne (scheme_of c.args.self.now.at c.args.self.now.limits) (process_of c.loop-stop.self.at (g.B.Book.ledger c.loop-stop.self.book)) (process_of c.run_one.new.self.at (g.B.Book.ledger c.run_one.new.self.book)) o) c.in_default.is here);
+      keeps = keeps-both (process_of c.args.self.now.at (g.B.Book.ledger c.args.self.now.book)) (process_of c.loop-stop.self.at (g.B.Book.ledger c.loop-stop.self.book)) (process_of c.run_one.new.self.at (g.B.Book.ledger c.run_one.new.self.book)) c.loop-stop.invariant.keeps c.in_ok-stop.ensures.keeps;
+      made = made-both (g.B.Book.ledger c.args.self.now.book).counts.built (g.B.Book.ledger c.loop-stop.self.book).counts.built (g.B.Book.ledger c.run_one.new.self.book).counts.built c.args.steps.now c.loop-stop.steps c.run_one.new.steps
+          (g.M.Maker.taken c.args.maker.now) (g.M.Maker.taken c.loop-stop.maker) (g.M.Maker.taken c.run_one.new.maker) c.loop-stop.invariant.made c.in_ok-stop.ensures.made;
+    }

@@ -1,0 +1,5 @@
+pub mod Fresh
+pub mod Process
+pub mod Begun
+pub mod Kept
+pub mod Called

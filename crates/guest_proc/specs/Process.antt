@@ -1,0 +1,143 @@
+-- A guest that runs, as contracts see it, and how far it comes with a block, and with many.
+use Rattle.std.specs.Prelude.{◌≡◌, ℕ, ◌+◌, ◌<◌, ◌==◌, ◌⊎◌, Bool, false, if◌then◌else◌, List, Option, Some, None, Result, Ok, Err}
+use Rattle.plain_machine.specs.declared.access.Access.{Access}
+use Rattle.plain_machine.specs.declared.cpu.Cpu.{Cpu}
+use Rattle.plain_machine.specs.declared.ends.End.TheVariants as ends
+use Rattle.plain_machine.specs.declared.ends.Kind.TheVariants as kinds
+use Rattle.plain_machine.specs.declared.io.Asked.{Asked}
+use Rattle.plain_machine.specs.declared.io.Asked.TheVariants as asked
+use Rattle.plain_machine.specs.Memory.{Memory, fetched}
+use Rattle.plain_machine.specs.Io.{Io}
+use Rattle.plain_machine.specs.Calls.{called}
+use Rattle.plain_machine.specs.Machine.{State, Setting, Action, Maps, Unmaps, Replaces, call, transition_by}
+use Rattle.plain_machine.specs.Run.{run, run_behind}
+use Rattle.plain_machine.specs.Cut.{Marked, marked, with_marks, over}
+use Rattle.plain_machine.specs.Events.{events}
+use Rattle.fragment.specs.Parts.{Parts}
+use Rattle.report.specs.Rows.{Rows}
+use Rattle.engine.specs.Seeing.{WantsRow, with_events}
+use Rattle.engine.specs.Standing.{state}
+use Rattle.block_ledger.specs.Ledger.{Ledger, is_live, view, wants_room}
+use Rattle.block_ledger.specs.Traced.{Scheme, Trace, traced, after_call}
+use Rattle.guest_proc.specs.declared.stop.Ran.{Ran}
+use Rattle.guest_proc.specs.declared.stop.Ran.TheVariants as ran
+use Rattle.guest_proc.specs.declared.stop.Stop.{Stop}
+use Rattle.guest_proc.specs.declared.stop.Stop.TheVariants as stop
+
+pub record Process : Type 0 where
+  pub state : State
+  -- how many instructions may still be done
+  pub fuel : ℕ
+  pub report : Rows
+  pub ledger : Ledger
+
+abbrev pub process : Cpu → Memory → Io → ℕ → Rows → Ledger → Process
+process cpu m io fuel report led = record { state = state cpu m io; fuel = fuel; report = report; ledger = led }
+
+-- ---- where it stops before a block
+
+abbrev pub stop_with : ℕ → Process → Result ℕ Access → Option Stop
+stop_with pool p (Err e) = Some (stop.Ended (ends.Fault kinds.Fetch p.state.cpu.pc))
+stop_with pool p (Ok word) = if wants_room pool p.ledger p.state.cpu.pc then Some stop.PoolFull else None
+
+-- the stop that comes before the next block begins, if one does
+abbrev pub stop_of : ℕ → Process → Option Stop
+stop_of pool p = if p.fuel == 0 then Some (stop.Ended ends.Fuel) else stop_with pool p (fetched p.state.memory p.state.cpu.pc)
+
+-- ---- how far it came
+
+abbrev pub trace : Ledger → List ℕ → List (List ℕ) → List Asked → Trace
+trace led maps units calls = record { ledger = led; maps = maps; units = units; calls = calls }
+
+-- The run from old has these states up to new. Their events were counted; and the ledger of new is the one that they lead
+-- to, but for this change, which is still to be done. Behind them this is told.
+pub record Went (scheme : Scheme) (old new : Process) (change : Setting → Trace → Trace) (behind : Setting → List ℕ → Marked) : Type 0 where
+  pub marks : List (State × Bool)
+  pub seen : (w : Setting) (answers : List ℕ) → marked scheme.max (run w old.fuel answers old.state) ≡ with_marks marks (behind w answers)
+  pub counted : new.report ≡ with_events (events scheme.tool marks) old.report
+  pub ledger : (w : Setting) (maps : List ℕ) (units : List (List ℕ)) (calls : List Asked) →
+      traced w scheme marks (trace old.ledger maps units calls) ≡ change w (trace new.ledger maps units calls)
+
+abbrev pub nothing : Setting → Trace → Trace
+nothing w t = t
+
+-- the run from new, where the next block begins
+abbrev pub onward : ℕ → Process → Setting → List ℕ → Marked
+onward max new w answers = marked max (run w new.fuel answers new.state)
+
+-- the run behind what the state of new comes to
+abbrev pub answered : ℕ → Process → Action → Setting → List ℕ → Marked
+answered max new action w answers = marked max (run_behind w new.fuel new.state (transition_by w answers new.state action))
+
+-- it goes on from new
+abbrev pub GoesOn : Scheme → Process → Process → Type 0
+GoesOn scheme old new = Went scheme old new nothing (onward scheme.max new)
+
+-- a map call: what is told behind it, and what it does to the ledger, go on from new with the answer that comes
+abbrev pub Wants : Scheme → Process → Process → Asked → Action → Type 0
+Wants scheme old new a action =
+    Went scheme old new (λ w. after_call w scheme (a, new.state.cpu, new.state.memory, new.state.io)) (answered scheme.max new action)
+
+-- it stops in a block, or at its end
+abbrev pub StopsIn : Scheme → Process → Process → Stop → Type 0
+StopsIn scheme old new (stop.Ended end) = Went scheme old new nothing (λ w answers. over end new.state.io.output answers)
+StopsIn scheme old new (stop.Map k) = Wants scheme old new (asked.Map k) (Maps k new.state)
+StopsIn scheme old new (stop.Unmap k) = Wants scheme old new (asked.Unmap k) (Unmaps k new.state)
+StopsIn scheme old new (stop.Replace k f) = Wants scheme old new (asked.Replace k f) (Replaces k f new.state)
+StopsIn scheme old new stop.PoolFull = ⊥
+
+-- it calls the system; what the call does is still to be done
+abbrev pub Asks : Scheme → Process → Process → Type 0
+Asks scheme old new =
+    Went scheme old new (λ w. after_call w scheme (called new.state.cpu new.state.memory new.state.io)) (answered scheme.max new (call new.state))
+
+-- a block was run that stood ready
+abbrev pub RanBlock : Scheme → Process → Process → Ran → Type 0
+RanBlock scheme old new ran.On = GoesOn scheme old new
+RanBlock scheme old new (ran.Ended end) = StopsIn scheme old new (stop.Ended end)
+RanBlock scheme old new ran.Asks = Asks scheme old new
+
+-- a call was done
+abbrev pub CallEnds : Scheme → Process → Process → Option Stop → Type 0
+CallEnds scheme old new None = GoesOn scheme old new
+CallEnds scheme old new (Some s) = StopsIn scheme old new s
+
+-- one block was run
+pub record IsOneBlock (old new : Process) : Type 0 where
+  pub less : new.fuel < old.fuel
+  pub one : new.ledger.counts.blocks ≡ old.ledger.counts.blocks + 1
+
+-- a stop came in it, or directly behind it
+abbrev pub Comes : Scheme → Process → Process → Stop → Type 0
+Comes scheme old new s = (GoesOn scheme old new × (stop_of scheme.pool new ≡ Some s)) ⊎ StopsIn scheme old new s
+
+-- At most one block was run: a stop came before it, in it or directly behind it, or none did.
+abbrev pub RanOne : Scheme → Process → Process → Option Stop → Type 0
+RanOne scheme old new None = IsOneBlock old new × GoesOn scheme old new × (stop_of scheme.pool new ≡ None)
+RanOne scheme old new (Some s) = ((new ≡ old) × (stop_of scheme.pool old ≡ Some s)) ⊎ (IsOneBlock old new × Comes scheme old new s)
+
+-- Blocks were run up to a stop: it came before the next block, or in the last one. Where none was run, nothing changed.
+pub record RanOn (scheme : Scheme) (old new : Process) (s : Stop) : Type 0 where
+  pub comes : Comes scheme old new s
+  pub spends : ((new ≡ old) × (stop_of scheme.pool old ≡ Some s)) ⊎ (new.fuel < old.fuel)
+
+-- ---- want of memory
+
+-- an event of the block that stands ready has no row when it comes
+pub record LacksRow (p : Process) : Type 0 where
+  pub block : Parts
+  pub ready : view p.ledger p.state.cpu.pc ≡ Some block
+  pub words : ℕ
+  pub state : State
+  pub report : Rows
+  pub wants : WantsRow block words p.state state p.report report
+
+-- the next block is to be built, or one of its events has no row, or it calls the system
+abbrev pub WantsMemory : Scheme → Process → Type 0
+WantsMemory scheme p = (stop_of scheme.pool p ≡ None) × ((is_live p.ledger p.state.cpu.pc ≡ false) ⊎ (LacksRow p ⊎ ((q : Process) × Asks scheme p q)))
+
+-- some blocks were run, and the next one wants memory
+pub record CameToWant (scheme : Scheme) (old : Process) : Type 0 where
+  pub reached : Process
+  pub went : GoesOn scheme old reached
+  pub wants : WantsMemory scheme reached

@@ -1,0 +1,21 @@
+//! One guest process: it runs block by block, over the blocks that stand ready in its book.
+//!
+//! It stands on `engine`, `guest_calls` and `elf_map`, and goes over any `Book` of `block_book` and any `Maker` of
+//! `block_build`. The layer above uses: a run goes on by the plain machine and by the ledger to the stop that it names
+//! (`RanOn`), and what it takes to want memory.
+#![tactic(auto)]
+
+mod begin;
+mod block;
+mod call;
+mod process;
+mod ready;
+mod run;
+mod running;
+mod stop;
+#[cfg(test)]
+mod tests;
+
+pub use process::Proc;
+pub use running::{Limits, Running};
+pub use stop::Stop;

@@ -1,0 +1,123 @@
+// A process runs.
+ghost use Rattle.std.specs.Prelude.{◌≡◌, ◌⊎◌, ◌<◌, ◌%◌, ◌^◌, true, false, None, Some, IfOk, OnOk, OnErr, IsErr};
+ghost use Rattle.std.specs.FinMap as fin;
+ghost use Rattle.block_ledger.specs.Ledger.{new_ledger};
+ghost use Rattle.region_laws.specs.Heap.{HeapIsData};
+ghost use Rattle.guest_proc.specs.Begun.{AreMade};
+ghost use Rattle.guest_proc.specs.Kept.{IsReady, Keeps, StopsWell, process_of, scheme_of};
+ghost use Rattle.guest_proc.specs.Process.{CameToWant, RanOn, RanOne, WantsMemory, stop_of};
+
+use crate::block::run_one_block;
+use crate::process::Proc;
+use crate::running::{Limits, Running};
+use crate::stop::Stop;
+use block_book::Book;
+use block_build::Maker;
+use cc_base::Steps;
+use plain_machine::{End, Kind};
+use std::alloc::{AllocError, Global};
+use std::sync::ledger::Ledger;
+
+impl<B: Book> Proc<B> {
+    /// A process before its first block: nothing has happened to its book, and its report is empty.
+    pub fn of(alloc: Global, at: Running, limits: Limits, book: B) -> Self
+        requires new { B.ledger book ≡ new_ledger }
+        requires aligned { at.cpu.pc % 4 ≡ 0 }
+        requires inert { HeapIsData at.io.heap at.mem }
+        requires empty { at.report.counts ≡ fin.empty }
+        requires fuel { at.fuel < 2 ^ 63 }
+        ensures parts { (result.at ≡ at) × (result.limits ≡ limits) × (result.book ≡ book) }
+        ensures fresh { result.spent ≡ false }
+    {
+        Proc {
+            alloc,
+            at,
+            limits,
+            book,
+            spent: false,
+        }
+    }
+
+    /// The stop that comes before the next block begins.
+    pub fn stop(&self) -> Option<Stop>
+        ensures { result ≡ stop_of self.now.limits.pool (process_of self.now.at (B.ledger self.now.book)) }
+    {
+        if self.at.fuel == 0 {
+            return Some(Stop::Ended(End::Fuel));
+        }
+        let Ok(_) = self.at.mem.fetch(self.at.cpu.pc) else {
+            return Some(Stop::Ended(End::Fault {
+                kind: Kind::Fetch,
+                pc: self.at.cpu.pc,
+            }));
+        };
+        if self.book.wants_room(self.limits.pool, self.at.cpu.pc) {
+            Some(Stop::PoolFull)
+        } else {
+            None
+        }
+    }
+
+    /// At most one block: where a stop comes before a block begins it answers that stop; else it runs one block, and
+    /// answers the stop that follows directly, if one does. The counter and the maker are those of the blocks that are
+    /// built.
+    pub fn run_one<M: Maker, L: Ledger>(
+        &mut self,
+        maker: &mut M,
+        steps: &mut Steps<L>,
+    ) -> Result<Option<Stop>, AllocError>
+        ensures ran { IfOk result (RanOne (scheme_of self.old.at self.old.limits) (process_of self.old.at (B.ledger self.old.book)) (process_of self.new.at (B.ledger self.new.book))) }
+        ensures keeps { OnOk result (Keeps (process_of self.old.at (B.ledger self.old.book)) (process_of self.new.at (B.ledger self.new.book))) }
+        ensures asks { IfOk result (λ stop. StopsWell stop self.new.at.io) }
+        ensures made { OnOk result (AreMade (B.ledger self.old.book).counts.built (B.ledger self.new.book).counts.built steps.old steps.new (M.taken maker.old) (M.taken maker.new)) }
+        ensures wants { OnErr result ((self.old.spent ≡ true) ⊎ WantsMemory (scheme_of self.old.at self.old.limits) (process_of self.old.at (B.ledger self.old.book))) }
+        ensures spent { self.old.spent ≡ true → IsErr result }
+        ensures after { OnErr result (self.new.spent ≡ true) }
+        ensures lasts { OnOk result (self.new.spent ≡ self.old.spent) }
+        ensures scheme { scheme_of self.new.at self.new.limits ≡ scheme_of self.old.at self.old.limits }
+    {
+        if self.spent {
+            return Err(AllocError);
+        }
+        if let Some(stop) = self.stop() {
+            return Ok(Some(stop));
+        }
+        self.spent = true;
+        let stop = run_one_block(
+            self.alloc,
+            &mut self.at,
+            self.limits,
+            &mut self.book,
+            maker,
+            steps,
+        )?;
+        self.spent = false;
+        if stop.is_some() {
+            return Ok(stop);
+        }
+        Ok(self.stop())
+    }
+
+    /// Runs on until a stop, over any maker of blocks. The pool is full exactly where the next block is not live and there
+    /// is no room for it.
+    pub fn run_with<M: Maker, L: Ledger>(
+        &mut self,
+        maker: &mut M,
+        steps: &mut Steps<L>,
+    ) -> Result<Stop, AllocError>
+        ensures ran { IfOk result (RanOn (scheme_of self.old.at self.old.limits) (process_of self.old.at (B.ledger self.old.book)) (process_of self.new.at (B.ledger self.new.book))) }
+        ensures keeps { OnOk result (Keeps (process_of self.old.at (B.ledger self.old.book)) (process_of self.new.at (B.ledger self.new.book))) }
+        ensures asks { IfOk result (λ stop. StopsWell (Some stop) self.new.at.io) }
+        ensures made { OnOk result (AreMade (B.ledger self.old.book).counts.built (B.ledger self.new.book).counts.built steps.old steps.new (M.taken maker.old) (M.taken maker.new)) }
+        ensures wants { OnErr result ((self.old.spent ≡ true) ⊎ CameToWant (scheme_of self.old.at self.old.limits) (process_of self.old.at (B.ledger self.old.book))) }
+        ensures after { OnErr result (self.new.spent ≡ true) }
+        ensures lasts { OnOk result (self.new.spent ≡ self.old.spent) }
+        ensures scheme { scheme_of self.new.at self.new.limits ≡ scheme_of self.old.at self.old.limits }
+    {
+        loop {
+            if let Some(stop) = self.run_one(maker, steps)? {
+                return Ok(stop);
+            }
+        }
+    }
+}

@@ -1,0 +1,4 @@
+pub mod Regions
+pub mod HeapMoves
+pub mod Replies
+pub mod Placing

@@ -1,0 +1,4 @@
+pub mod Heap
+pub mod Standing
+pub mod Calls
+pub mod Laws
