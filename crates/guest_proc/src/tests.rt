@@ -17,8 +17,7 @@ use std::test::Fail;
 
 const CODE: u32 = 0x1_0000;
 
-// What a guest of these words, which may be written, comes to, with its counts of blocks begun, reused, built and linked,
-// and how many the builder counted.
+// What a guest of these words, which may be written, comes to, with its counts of blocks begun, reused, built and linked.
 fn counts_of<L: Ledger>(
     alloc: Global,
     tool: Tool,
@@ -65,6 +64,11 @@ fn counts_of<L: Ledger>(
     ))
 }
 
+// The same; nobody asks how many the builder counted.
+fn told_of(alloc: Global, tool: Tool, words: &[u32]) -> Result<(Stop, [u64; 4]), Fail> {
+    counts_of::<Brand>(alloc, tool, words, Blank::new(1))
+}
+
 // A countdown from 1000; a guest that overwrites its own next instruction; and a call with its return.
 #[test]
 fn blocks_are_kept_linked_and_withdrawn(rt: HostRuntime) -> Result<(), Fail> {
@@ -91,7 +95,7 @@ fn blocks_are_kept_linked_and_withdrawn(rt: HostRuntime) -> Result<(), Fail> {
         (Tool::Memory, overwrite.as_slice(), [3, 0, 3, 0]),
         (Tool::Calls, calls.as_slice(), [3, 0, 3, 0]),
     ] {
-        let told = counts_of::<Brand>(alloc, tool, words, Blank::new(1))?;
+        let told = told_of(alloc, tool, words)?;
         assert_eq!(rt; told, (end, counts));
     }
     Ok(())
