@@ -1,0 +1,5 @@
+pub mod Answering
+pub mod Calling
+pub mod Stopping
+pub mod Roomy
+pub mod Whole

@@ -1,0 +1,130 @@
+-- The end of a run.
+use Rattle.std.proofs.Common.{◌≡◌, ℕ, suc, ◌+◌, Bool, true, false, List, [], ◌∷◌, ◌++◌, drop, length, map, Option, Some, None, refl, sym, ◌∙◌, ap, subst, arith, append_assoc}
+use Rattle.std.specs.Prelude.{slice_get}
+use Rattle.std.specs.Option.{option_to_list}
+use Rattle.std.specs.Ordering.{nat_cmp}
+use Rattle.std.specs.FinMap as fin
+use Rattle.std.proofs.lemmas.List.{append-nil}
+use Rattle.cc_base.specs.Image.{Code}
+use Rattle.rv_decode.specs.declared.ins.Isa.{Isa}
+use Rattle.probe_tools.specs.declared.event.Event.{Event}
+use Rattle.probe_tools.specs.Rows.{AreRows, Counts, key_of, with_more}
+use Rattle.probe_tools.proofs.Counting.{rows_more}
+use Rattle.plain_machine.specs.declared.ends.End.{End}
+use Rattle.plain_machine.specs.declared.io.Asked.{Asked}
+use Rattle.plain_machine.specs.Region.{Area}
+use Rattle.plain_machine.specs.Machine.{Setting, State, Guest, base_at, file_at, start}
+use Rattle.plain_machine.specs.Run.{Run, run, plain, run_of, run_from}
+use Rattle.plain_machine.specs.Cut.{Marked, cut, marked, with_marks, over}
+use Rattle.plain_machine.specs.Own.{own_answers}
+use Rattle.plain_machine.specs.Events.{events}
+use Rattle.plain_machine.specs.Plain.{IsPlainRun}
+use Rattle.report.specs.Rows.{Rows}
+use Rattle.engine.specs.Seeing.{counting, with_events}
+use Rattle.block_ledger.specs.Ledger.{Ledger, attached, segment_of, new_ledger}
+use Rattle.block_ledger.specs.Traced.{Scheme, Trace, all_attached, codes_of, first_trace, if_started, run_trace, started, started_at, traced, unit_blocks}
+use Rattle.guest_proc.specs.declared.stop.Stop.TheVariants as stop
+use Rattle.guest_proc.specs.Process.{Comes, Process, nothing, trace}
+use Rattle.map_laws.specs.Came.{Came, Goes, attached_from, done}
+use Rattle.map_laws.specs.Own.{answers_to}
+use Rattle.map_laws.specs.Whole.{EndIsWhole, IsFirst, IsRunBy}
+use Rattle.map_laws.proofs.Answering.{came-more}
+use Rattle.map_laws.proofs.Calling.{calls_of, own-calls, states_of, traced-calls}
+use Rattle.map_laws.proofs.Stopping.{comes-ended}
+
+-- ---- rows
+
+rows_counting : (es before : List Event) (counts : Counts) → AreRows before counts → AreRows (before ++ es) (counting es counts)
+rows_counting [] before counts are = subst (λ xs. AreRows xs counts) (sym (append-nil before)) are
+rows_counting (e ∷ es) before counts are =
+    subst (λ xs. AreRows xs (counting es (with_more (key_of e) 1 counts))) (append_assoc before (e ∷ []) es)
+    (rows_counting es (before ++ e ∷ []) (with_more (key_of e) 1 counts) (rows_more before e counts are))
+
+no_rows : (counts : Counts) → counts ≡ fin.empty → AreRows [] counts
+no_rows counts empty key = ap (λ c. fin.get c key) empty ∙ fin.get-empty nat_cmp key
+
+-- an empty report that counted these events has their rows
+pub rows-of : (es : List Event) (old new : Rows) → old.counts ≡ fin.empty → new ≡ with_events es old → AreRows es new.counts
+rows-of es old new empty is = subst (λ (r : Rows). AreRows es r.counts) (sym is) (rows_counting es [] old.counts (no_rows old.counts empty))
+
+-- ---- units
+
+-- units of all these segments are attached, and the others are left
+pub all-taken : (scheme : Scheme) (isa : Isa) (k seg : ℕ) (codes : List Code) (units rest : List (List ℕ)) (led : Ledger) (maps : List ℕ) (calls : List Asked) → length units ≡ length codes →
+    attached_from scheme isa k seg codes (trace led maps (units ++ rest) calls) ≡ trace (all_attached scheme isa k seg codes units led) maps rest calls
+all-taken scheme isa k seg [] [] rest led maps calls e = refl
+all-taken scheme isa k seg [] (u ∷ us) rest led maps calls e = absurd (cc)
+all-taken scheme isa k seg (c ∷ cs) [] rest led maps calls e = absurd (cc)
+all-taken scheme isa k seg (c ∷ cs) (u ∷ us) rest led maps calls e =
+    all-taken scheme isa k (seg + 1) cs us rest (attached (segment_of k seg) c (unit_blocks scheme isa c u) led) maps calls (omega (arith, e))
+
+-- ---- the start
+
+module _ (w : Setting) (scheme : Scheme) (g : Guest) (files : List ℕ) (f : ℕ) (before : List (List ℕ)) (first : Process) (s : IsFirst w scheme g files f before first) where
+  -- the plain run is the run from there
+  plain_is : (maps : List ℕ) → plain w g (f ∷ maps) ≡ run w first.fuel maps first.state
+  plain_is maps =
+      ap (λ o. run_of w g f maps o (file_at w f)) s.stands
+      ∙ ap (run_of w g f maps (Some s.base)) s.known
+      ∙ ap (run_from w g maps) s.starts
+      ∙ ap (λ fuel. run w fuel maps first.state) (sym s.fuel)
+
+  -- and so is the ledger
+  started_is : (maps : List ℕ) (units : List (List ℕ)) → started w scheme g (f ∷ maps) (before ++ units) ≡ trace first.ledger maps units []
+  started_is maps units =
+      let t : Trace = first_trace maps (before ++ units) in
+      ap (λ o. started_at scheme g f o (file_at w f) t) s.stands
+      ∙ ap (λ o. started_at scheme g f (Some s.base) o t) s.known
+      ∙ ap (λ o. if_started scheme g.isa g.program (codes_of s.program s.base) o t) s.starts
+      ∙ all-taken scheme g.isa g.program 0 (codes_of s.program s.base) before units new_ledger maps [] s.size
+      ∙ ap (λ led. trace led maps units []) (sym s.ledger)
+
+-- the states of a cut are those that were cut
+cut_states : (max : ℕ) (states : List State) (room : ℕ) (place : Option Area) → states_of (cut max room place states) ≡ states
+cut_states max [] room place = refl
+cut_states max (s ∷ states) room place = ap (λ xs. s ∷ xs) (cut_states max states _ _)
+
+-- ---- the end
+
+-- the whole run from a state, with these marks
+record Ends (w : Setting) (scheme : Scheme) (maps : List ℕ) (units : List (List ℕ)) (calls : List Asked) (first new : Process) (end : End) : Type 0 where
+  marks : List (State × Bool)
+  seen : marked scheme.max (run w first.fuel maps first.state) ≡ with_marks marks (over end new.state.io.output [])
+  counted : new.report ≡ with_events (events scheme.tool marks) first.report
+  ledger : traced w scheme marks (trace first.ledger maps units []) ≡ trace new.ledger [] [] calls
+
+ends_so : (w : Setting) (scheme : Scheme) (maps : List ℕ) (units : List (List ℕ)) (calls : List Asked) (first mid new : Process) (end : End) →
+    Goes w scheme maps units calls first mid → Comes scheme mid new (stop.Ended end) → Ends w scheme maps units calls first new end
+ends_so w scheme maps units calls first mid new end a b =
+    let c : Came w scheme maps units calls first new done (λ more. over end new.state.io.output more) = came-more w scheme maps units calls first mid new nothing (λ x answers. over end new.state.io.output answers) a (comes-ended scheme mid new end b) in
+    record {
+      marks = c.marks;
+      seen = ap (λ xs. marked scheme.max (run w first.fuel xs first.state)) (sym (append-nil maps)) ∙ c.seen [];
+      counted = c.counted;
+      ledger = ap (λ xs. traced w scheme c.marks (trace first.ledger xs units [])) (sym (append-nil maps))
+          ∙ ap (λ us. traced w scheme c.marks (trace first.ledger (maps ++ []) us [])) (sym (append-nil units)) ∙ c.ledger [] [];
+    }
+
+pub end-is-whole : EndIsWhole
+end-is-whole w scheme g files f before units calls first mid new end s a b =
+    let maps : List ℕ = answers_to w files calls in
+    let e = ends_so w scheme maps units calls first mid new end a b in
+    let whole : plain w g (f ∷ maps) ≡ run w first.fuel maps first.state = plain_is w scheme g files f before first s maps in
+    let cuts : cut scheme.max 0 None (run w first.fuel maps first.state).states ≡ e.marks = ap (λ (v : Marked). v.marks) e.seen ∙ append-nil e.marks in
+    let marks : cut scheme.max 0 None (plain w g (f ∷ maps)).states ≡ e.marks = ap (λ (x : Run). cut scheme.max 0 None x.states) whole ∙ cuts in
+    let states : states_of e.marks ≡ (plain w g (f ∷ maps)).states = ap states_of (sym marks) ∙ cut_states scheme.max (plain w g (f ∷ maps)).states 0 None in
+    let made : calls_of (states_of e.marks) ≡ calls = sym (traced-calls w scheme e.marks (trace first.ledger maps units [])) ∙ ap (λ (t : Trace). t.calls) e.ledger in
+    let own : maps ≡ own_answers w files (plain w g (f ∷ maps)).states = ap (answers_to w files) (sym made) ∙ own-calls w files (states_of e.marks) ∙ ap (own_answers w files) states in
+    record {
+      plain = record {
+        own = ap (λ xs. f ∷ xs) own ∙ ap (λ o. option_to_list o ++ own_answers w files (plain w g (f ∷ maps)).states) (sym s.named);
+        complete = record {
+          ends = ap (λ (x : Run). x.end) whole ∙ ap (λ (v : Marked). v.end) e.seen;
+          took_all = ap (λ (x : Run). x.left) whole ∙ ap (λ (v : Marked). v.left) e.seen;
+        };
+        wrote = ap (λ (x : Run). x.output) whole ∙ ap (λ (v : Marked). v.output) e.seen;
+        rows = subst (λ xs. AreRows (events scheme.tool xs) new.report.counts) (sym marks) (rows-of (events scheme.tool e.marks) first.report new.report s.empty e.counted);
+      };
+      ledger = ap (λ (t : Trace). t.ledger)
+          (ap (λ xs. traced w scheme xs (started w scheme g (f ∷ maps) (before ++ units))) marks ∙ ap (traced w scheme e.marks) (started_is w scheme g files f before first s maps units) ∙ e.ledger);
+    }
