@@ -34,15 +34,15 @@ with_nothing : (pool : ℕ) (p : Process) (r : Result ℕ Access) → AsksNothin
 with_nothing pool p (Ok word) = room_nothing (wants_room pool p.ledger p.state.cpu.pc)
 with_nothing pool p (Err e) = tt
 
-before_nothing : (pool : ℕ) (p : Process) → AsksNothing (stop_of pool p)
-before_nothing pool p = elim (cases_Bool (p.fuel == 0)) [
+pub before-nothing : (pool : ℕ) (p : Process) → AsksNothing (stop_of pool p)
+before-nothing pool p = elim (cases_Bool (p.fuel == 0)) [
   | inl spent ↦ rw spent tt
   | inr some ↦ rw some (with_nothing pool p (fetched p.state.memory p.state.cpu.pc))
 ]
 
 -- a stop that is to be answered comes in a block
 pub comes-asking : (scheme : Scheme) (old new : Process) (s : Stop) → (AsksNothing (Some s) → ⊥) → Comes scheme old new s → StopsIn scheme old new s
-comes-asking scheme old new s asks (inl before) = absurd (asks (subst AsksNothing before.1 (before_nothing scheme.pool new)))
+comes-asking scheme old new s asks (inl before) = absurd (asks (subst AsksNothing before.1 (before-nothing scheme.pool new)))
 comes-asking scheme old new s asks (inr within) = within
 
 -- ---- an end

@@ -1,0 +1,6 @@
+pub mod Plain
+pub mod Attach
+pub mod Room
+pub mod Hosted
+pub mod Answer
+pub mod Start
