@@ -117,7 +117,8 @@ impl FileSegment {
     /// Where it lies at this base.
     pub fn span(&self, base: u32) -> Span
         requires { base + self.now.vaddr + self.now.size ≤ 4294967295 }
-        ensures { result ≡ record { start = base + self.now.vaddr; len = self.now.size } }
+        ensures span { result ≡ record { start = base + self.now.vaddr; len = self.now.size } }
+        ensures len { length (area_of 0 self.now).bytes ≡ self.now.size }
     {
         Span {
             start: base + self.vaddr,

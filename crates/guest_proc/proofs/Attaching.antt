@@ -1,5 +1,5 @@
 -- A unit is attached, and blocks are offered to one.
-use Rattle.std.proofs.Common.{◌≡◌, ℕ, ◌+◌, ◌<◌, ◌==◌, ◌&&◌, ◌⊎◌, Bool, true, false, List, [], ◌∷◌, ◌++◌, length, map, Option, Some, None, refl, sym, ◌∙◌, ap, subst, arith, inl, inr}
+use Rattle.std.proofs.Common.{◌≡◌, ℕ, ◌+◌, ◌%◌, ◌<◌, ◌==◌, ◌&&◌, ◌⊎◌, Bool, true, false, List, [], ◌∷◌, ◌++◌, length, map, Option, Some, None, refl, sym, ◌∙◌, ap, subst, arith, inl, inr}
 use Rattle.std.specs.Prelude.{find}
 use Rattle.std.specs.Option.{option_or}
 use Rattle.std.specs.List.{All, list_any}
@@ -16,8 +16,9 @@ use Rattle.probe_tools.specs.declared.tool.Tool.{Tool}
 use Rattle.plain_machine.specs.Region.{Area, meets}
 use Rattle.plain_machine.specs.Memory.{Memory, AreDisjoint, IsMemory, has_code, code_of, code_at, as_code}
 use Rattle.fragment.specs.Parts.{Parts}
-use Rattle.fragment.specs.Build.{built, has_word}
-use Rattle.fragment.proofs.Values.{has_of, value-built}
+use Rattle.fragment.specs.Build.{built, can_build, has_word}
+use Rattle.fragment.proofs.Testing.{fresh_can}
+use Rattle.fragment.proofs.Values.{value-built}
 use Rattle.engine.proofs.KeptCode.{and_left, and_right}
 use Rattle.unit_set.specs.Held.{Held, IsFreshFor}
 use Rattle.block_book.specs.Clauses.{blocks_of}
@@ -83,8 +84,9 @@ code_by x a m image (Some r) good is e h =
 
 built_word : (image : Code) (isa : Isa) (tool : Tool) (max a : ℕ) (f : Parts) → 0 < max → built image a isa tool max ≡ Some f → has_word image a ≡ true
 built_word image isa tool max a f some e =
-    let both = value-built image a isa tool max f some e in
-    subst (λ x. has_word image x ≡ true) both.1 (has_of image f.address (both.0.words 0 both.0.not_empty))
+    let at : f.address ≡ a = (value-built image a isa tool max f some e).1 in
+    let can : can_build image f.address ≡ true = fresh_can image isa tool max f (ap (λ x. built image x isa tool max) at ∙ e) in
+    subst (λ x. has_word image x ≡ true) at (and_right (f.address % 4 == 0) (has_word image f.address) can)
 
 -- what is found among them was built there
 found_built : (u : Held) (a : ℕ) (f : Parts) (blocks : List Parts) → All (IsFreshFor u.slot u.image) blocks → fin.find nat_cmp a (map (λ g. (g.address, g)) blocks) ≡ Some f →
@@ -117,9 +119,9 @@ pub record Fits (scheme : Scheme) (isa : Isa) (m : Memory) (u : Held) : Type 0 w
   pub memory : IsMemory m
   pub there : code_at m u.image.start ≡ Some u.image
   pub fresh : All (IsFreshFor u.slot u.image) u.frags
-  pub isa : u.slot.isa ≡ isa
-  pub tool : u.slot.tool ≡ scheme.tool
-  pub max : u.slot.max ≡ scheme.max
+  pub same_isa : u.slot.isa ≡ isa
+  pub same_tool : u.slot.tool ≡ scheme.tool
+  pub same_max : u.slot.max ≡ scheme.max
 
 fresh-attached : (scheme : Scheme) (isa : Isa) (m : Memory) (i : ℕ) (u : Held) (led : Ledger) → 0 < scheme.max → Fits scheme isa m u → AreFresh scheme.tool scheme.max isa m led →
     AreFresh scheme.tool scheme.max isa m (attached i u.image (blocks_of u.frags) led)
@@ -130,7 +132,7 @@ fresh-attached scheme isa m i u led some fits fresh a f is =
       | inl in_unit ↦
           let own : built u.image a u.slot.isa u.slot.tool u.slot.max ≡ Some f = found_built u a f u.frags fits.fresh (sym (fin.get-from_entries nat_cmp_total (map (λ g. (g.address, g)) u.frags) a) ∙ in_unit) in
           let there : built u.image a isa scheme.tool scheme.max ≡ Some f =
-          ap (λ x. built u.image a x scheme.tool scheme.max) (sym fits.isa) ∙ ap (λ x. built u.image a u.slot.isa x scheme.max) (sym fits.tool) ∙ ap (λ x. built u.image a u.slot.isa u.slot.tool x) (sym fits.max) ∙ own in
+          ap (λ x. built u.image a x scheme.tool scheme.max) (sym fits.same_isa) ∙ ap (λ x. built u.image a u.slot.isa x scheme.max) (sym fits.same_tool) ∙ ap (λ x. built u.image a u.slot.isa u.slot.tool x) (sym fits.same_max) ∙ own in
           ap (λ o. built_in o a isa scheme.tool scheme.max)
           (code_by u.image.start a m u.image (find (has_code u.image.start 1) m) fits.memory refl fits.there (built_word u.image isa scheme.tool scheme.max a f some there)) ∙ there
       | inr before ↦ fresh a f before

@@ -1,5 +1,5 @@
 -- A module comes: what was ready stays so, and no live block begins in its code.
-use Rattle.std.proofs.Common.{◌≡◌, ℕ, ◌+◌, ◌<◌, ◌%◌, ◌&&◌, Bool, true, false, List, [], ◌∷◌, ◌++◌, length, Option, Some, None, Ok, refl, sym, ◌∙◌, ap, subst, arith, inl, inr, append_assoc}
+use Rattle.std.proofs.Common.{◌≡◌, ℕ, ◌+◌, ◌*◌, ◌/◌, ◌<◌, ◌≤◌, ◌%◌, ◌==◌, ◌&&◌, Bool, true, false, List, [], ◌∷◌, ◌++◌, length, Option, Some, None, Ok, refl, sym, ◌∙◌, ap, subst, arith, inl, inr, append_assoc}
 use Rattle.std.specs.Prelude.{find, nat_le, nat_lt, is_some}
 use Rattle.std.proofs.lemmas.Bool.{cases_Bool}
 use Rattle.std.proofs.lemmas.Bool.Decides.{nat_tests}
@@ -12,16 +12,17 @@ use Rattle.plain_machine.specs.Memory.{Memory, IsMemory, has_code, as_code, code
 use Rattle.plain_machine.specs.Program.{Program, Segment, area_of, base_of, placed, top_of, with_segments}
 use Rattle.plain_machine.specs.Machine.{State, heap_from}
 use Rattle.fragment.specs.Parts.{Parts}
+use Rattle.report.specs.Rows.{Rows}
 use Rattle.engine.proofs.KeptCode.{and_right}
 use Rattle.block_book.specs.Clauses.{IsClear}
 use Rattle.block_ledger.specs.Ledger.{Ledger, is_live, view}
 use Rattle.block_ledger.specs.Traced.{Scheme, built_in, codes_at, codes_of}
 use Rattle.region_laws.specs.Heap.{HeapIsData}
 use Rattle.region_laws.proofs.Regions.{find-more}
-use Rattle.region_laws.proofs.Placing.{made, not_before, placed-grows, some_within, tail_of}
+use Rattle.region_laws.proofs.Placing.{made, not_before, placed-grows, placed-stand, some_within, tail_of}
 use Rattle.guest_proc.specs.Fresh.{AreFresh, AreMapped, block_in, extent}
 use Rattle.guest_proc.specs.Kept.{IsReady}
-use Rattle.guest_proc.specs.Maps.{AreClear, Enters, IsEntered, Places, StandsNow, entered_state, placed_state, put_to}
+use Rattle.guest_proc.specs.Maps.{AreClear, Enters, IsEntered, Places, Placing, StandsNow, entered_state, placed_state, put_to}
 use Rattle.guest_proc.specs.Process.{Process}
 use Rattle.guest_proc.proofs.Entering.{entry-aligned}
 
@@ -112,16 +113,45 @@ ready-entered scheme program base k f old new false ready (cannot, is) stands = 
 
 pub clear-placed : (scheme : Scheme) (program : Program) (base k f : ℕ) (old new : Process) (b : Bool) → IsReady scheme old → Places program base k f old new b →
     (b ≡ true → StandsNow program base old.state.memory new.state.memory new.state.io.heap) → b ≡ true → AreClear (codes_of program base) new.ledger
-clear-placed scheme program base k f old new true ready (m, e, is) stands yes =
+clear-placed scheme program base k f old new true ready (m, e, is) stands is_so =
     let good : IsMemory m = subst (λ (p : Process). IsMemory p.state.memory) is (stands refl).memory in
     subst (λ (p : Process). AreClear (codes_of program base) p.ledger) (sym is)
     (clear-all scheme.tool scheme.max old.state.cpu.isa old.state.memory m (base_of program base) program.segments old.ledger good ready.fresh e)
-clear-placed scheme program base k f old new false ready p stands yes = absurd (cc)
+clear-placed scheme program base k f old new false ready p stands is_so = absurd (cc)
 
 pub clear-entered : (scheme : Scheme) (program : Program) (base k f : ℕ) (old new : Process) (b : Bool) → IsReady scheme old → Enters program base k f old new b →
     (b ≡ true → StandsNow program base old.state.memory new.state.memory new.state.io.heap) → b ≡ true → AreClear (codes_of program base) new.ledger
-clear-entered scheme program base k f old new true ready e stands yes =
+clear-entered scheme program base k f old new true ready e stands is_so =
     let good : IsMemory e.memory = subst (λ (p : Process). IsMemory p.state.memory) e.becomes (stands refl).memory in
     subst (λ (p : Process). AreClear (codes_of program base) p.ledger) (sym e.becomes)
     (clear-all scheme.tool scheme.max old.state.cpu.isa old.state.memory e.memory (base_of program base) program.segments old.ledger good ready.fresh e.placed)
-clear-entered scheme program base k f old new false ready p stands yes = absurd (cc)
+clear-entered scheme program base k f old new false ready p stands is_so = absurd (cc)
+
+-- ---- as it is told of a file
+
+-- a heap that is empty has no region
+pub no-heap : (top : ℕ) (m : Memory) → HeapIsData (heap_from top) m
+no-heap top m = elim (cases_Bool (nat_lt 4294967295 ((top + 15) / 16 * 16))) [
+  | inl far ↦ rw far refl
+  | inr near ↦ let self : (((top + 15) / 16 * 16) == ((top + 15) / 16 * 16)) ≡ true = grind (arith, nat_tests) in rw near (rw self refl)
+]
+
+pub stands-now : (program : Program) (base : ℕ) (m after : Memory) (heap : Option Heap) (b : Bool) → b ≡ true → Placing (placed program base m) m after b → (b ≡ true → top_of program base ≤ 4294967295) → IsMemory after → HeapIsData heap m →
+    StandsNow program base m after heap
+stands-now program base m after heap true is_so made top good h = record { top = top refl; memory = good; stand = placed-stand program base m after heap good h made }
+stands-now program base m after heap false is_so made top good h = absurd (cc)
+
+pub ready-came : (entered : Bool) (scheme : Scheme) (program : Program) (base k f : ℕ) (old new : Process) (b : Bool) → IsReady scheme old →
+    (entered ≡ true → Places program base k f old new b) → (entered ≡ false → Enters program base k f old new b) → (b ≡ true → StandsNow program base old.state.memory new.state.memory new.state.io.heap) → IsReady scheme new
+ready-came true scheme program base k f old new b ready p e stands = ready-placed scheme program base k f old new b ready (p refl) stands
+ready-came false scheme program base k f old new b ready p e stands = ready-entered scheme program base k f old new b ready (e refl) stands
+
+pub clear-came : (entered : Bool) (scheme : Scheme) (program : Program) (base k f : ℕ) (old new : Process) (b : Bool) → IsReady scheme old →
+    (entered ≡ true → Places program base k f old new b) → (entered ≡ false → Enters program base k f old new b) → (b ≡ true → StandsNow program base old.state.memory new.state.memory new.state.io.heap) →
+    b ≡ true → AreClear (codes_of program base) new.ledger
+clear-came true scheme program base k f old new b ready p e stands is_so = clear-placed scheme program base k f old new b ready (p refl) stands is_so
+clear-came false scheme program base k f old new b ready p e stands is_so = clear-entered scheme program base k f old new b ready (e refl) stands is_so
+
+-- the scheme of a report, with these limits
+abbrev pub scheme_in : ℕ → ℕ → Rows → Scheme
+scheme_in max pool report = record { tool = report.tool; max = max; pool = pool }

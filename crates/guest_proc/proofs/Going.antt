@@ -12,7 +12,8 @@ use Rattle.probe_tools.specs.declared.tool.Tool.{Tool}
 use Rattle.plain_machine.specs.declared.io.Heap.{Heap}
 use Rattle.plain_machine.specs.Region.{Area, meets}
 use Rattle.plain_machine.specs.Memory.{Memory, IsMemory, AreDisjoint, AreInRange, has_code, starts_at, as_code, code_at, region_from, others, without_first}
-use Rattle.plain_machine.specs.Calls.{is_empty}
+use Rattle.plain_machine.specs.Io.{Io}
+use Rattle.plain_machine.specs.Calls.{is_empty, is_module}
 use Rattle.plain_machine.specs.Program.{Program, Segment, area_of, base_of, unplaced, without_segments}
 use Rattle.fragment.specs.Parts.{Parts}
 use Rattle.engine.specs.Standing.{shape}
@@ -27,7 +28,7 @@ use Rattle.region_laws.proofs.Regions.{find-without, started}
 use Rattle.guest_proc.specs.Fresh.{AreFresh, AreMapped, block_in, extent}
 use Rattle.guest_proc.specs.Kept.{IsReady}
 use Rattle.guest_proc.specs.Maps.{IsPlaced, OthersStartElsewhere, put_to, unplaced_state}
-use Rattle.guest_proc.specs.Process.{Process}
+use Rattle.guest_proc.specs.Process.{Process, process}
 
 -- the region starts where one of the segments does
 abbrev is_one : ℕ → List Segment → Area → Bool
@@ -202,3 +203,8 @@ ready-unplaced scheme p k program base good placed ready = record {
   small = ready.small;
   few = ready.few;
 }
+
+pub gone-so : (p : Process) (k : ℕ) (program : Program) (base : ℕ) (m : Memory) (io : Io) (led : Ledger) → m ≡ unplaced program base p.state.memory → io ≡ record p.state.io { mapped = without_first (is_module k) p.state.io.mapped } →
+    led ≡ unmapped k (codes_of program base) p.ledger →
+    process p.state.cpu m io p.fuel p.report led ≡ put_to p (unplaced_state p.state k program base) (unmapped k (codes_of program base) p.ledger)
+gone-so p k program base m io led memory others ledger = rw (memory, others, ledger) refl

@@ -8,23 +8,21 @@ use Rattle.cc_base.specs.Span.{Range}
 use Rattle.plain_machine.specs.Memory.{Memory, code_at}
 use Rattle.plain_machine.specs.Program.{Program, Segment, area_of, base_of}
 use Rattle.elf_map.specs.Program.{executes, span_at, spans_of, text_of, texts_of}
+use Rattle.elf_map.proofs.SpanLemmas.{text-start}
 use Rattle.block_book.specs.Clauses.{IsClear, region_of}
 use Rattle.block_ledger.specs.Ledger.{Ledger}
 use Rattle.block_ledger.specs.Traced.{codes_at, codes_of}
 use Rattle.region_laws.specs.Standing.{AreThere}
 use Rattle.guest_proc.specs.Maps.{AreClear}
 
--- where a text stands is where its segment does, and it has its bytes
-start_at : (program : Program) (base : ℕ) (s : Segment) → start_of (text_of program.fixed s) base ≡ base_of program base + s.vaddr
-start_at program base s = elim (cases_Bool program.fixed) [ inl fixed ↦ rw fixed refl | inr free ↦ rw free refl ]
-
-pub code_for : ℕ → Text → Code
+-- the code of a text, with its module at this base
+abbrev pub code_for : ℕ → Text → Code
 code_for base text = record { start = start_of text base; bytes = text.bytes }
 
 codes-by : (program : Program) (base : ℕ) (ss : List Segment) → codes_at (base_of program base) ss ≡ map (code_for base) (map (text_of program.fixed) (filter executes ss))
 codes-by program base [] = refl
 codes-by program base (s ∷ ss) = elim (cases_Bool s.flags.execute) [
-  | inl runs ↦ rw runs (ap (λ (x : ℕ). record { start = x; bytes = (area_of 0 s).bytes } ∷ codes_at (base_of program base) ss) (sym (start_at program base s)) ∙ ap (λ cs. code_for base (text_of program.fixed s) ∷ cs) (codes-by program base ss))
+  | inl runs ↦ rw runs (ap (λ (x : ℕ). record { start = x; bytes = (area_of 0 s).bytes } ∷ codes_at (base_of program base) ss) (sym (text-start program base s)) ∙ ap (λ cs. code_for base (text_of program.fixed s) ∷ cs) (codes-by program base ss))
   | inr off ↦ rw off (codes-by program base ss)
 ]
 

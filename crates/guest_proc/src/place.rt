@@ -44,14 +44,38 @@ impl<B: Book> Proc<B> {
             return Err(AllocError);
         }
         self.spent = true;
-        let placed = if self.entered {
-            place_more(&mut self.at, module, file, elf, base)?
-        } else {
-            enter(&mut self.at, module, file, elf, base)?
-        };
+        let placed = come(self.entered, &mut self.at, module, file, elf, base)?;
         self.spent = false;
-        self.entered = self.entered || placed;
+        self.entered = either(self.entered, placed);
         Ok(placed)
+    }
+}
+
+fn either(a: bool, b: bool) -> bool
+    ensures { result ≡ (a || b) }
+{
+    a || b
+}
+
+// Places a file for a module: beside what runs, where that was entered, or as the program that is to be run.
+fn come(
+    entered: bool,
+    at: &mut Running,
+    module: u32,
+    file: u32,
+    elf: &Elf,
+    base: u32,
+) -> Result<bool, AllocError>
+    requires inert { HeapIsData at.old.io.heap at.old.mem }
+    ensures places { entered ≡ true → IfOk result (λ placed. (led : Ledger) → Places elf.now base «module» file (process_of at.old led) (process_of at.new led) placed) }
+    ensures enters { entered ≡ false → IfOk result (λ placed. (led : Ledger) → Enters elf.now base «module» file (process_of at.old led) (process_of at.new led) placed) }
+    ensures stands { IfOk result (λ placed. placed ≡ true → StandsNow elf.now base at.old.mem at.new.mem at.new.io.heap) }
+    ensures report { at.new.report ≡ at.old.report }
+{
+    if entered {
+        place_more(at, module, file, elf, base)
+    } else {
+        enter(at, module, file, elf, base)
     }
 }
 
@@ -66,7 +90,7 @@ fn place_more(
     requires inert { HeapIsData at.old.io.heap at.old.mem }
     ensures places { IfOk result (λ placed. (led : Ledger) → Places elf.now base «module» file (process_of at.old led) (process_of at.new led) placed) }
     ensures stands { IfOk result (λ placed. placed ≡ true → StandsNow elf.now base at.old.mem at.new.mem at.new.io.heap) }
-    ensures tool { at.new.report ≡ at.old.report }
+    ensures report { at.new.report ≡ at.old.report }
 {
     if !place_file(elf, base, &mut at.mem)? {
         return Ok(false);
@@ -76,16 +100,10 @@ fn place_more(
 }
 
 // Places the program that is to be run, and enters it; false where it is refused, or has no entry.
-fn enter(
-    at: &mut Running,
-    module: u32,
-    file: u32,
-    elf: &Elf,
-    base: u32,
-) -> Result<bool, AllocError>
+fn enter(at: &mut Running, module: u32, file: u32, elf: &Elf, base: u32) -> Result<bool, AllocError>
     ensures enters { IfOk result (λ placed. (led : Ledger) → Enters elf.now base «module» file (process_of at.old led) (process_of at.new led) placed) }
     ensures stands { IfOk result (λ placed. placed ≡ true → StandsNow elf.now base at.old.mem at.new.mem at.new.io.heap) }
-    ensures tool { at.new.report ≡ at.old.report }
+    ensures report { at.new.report ≡ at.old.report }
 {
     let Some(entry) = elf.entry(base) else {
         return Ok(false);

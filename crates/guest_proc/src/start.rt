@@ -21,7 +21,7 @@ const STACK_END: u32 = 0x8000_0000;
 /// The stack pointer at the start.
 const STACK_POINTER: u32 = 0x7fff_ffc0;
 
-impl<B: Book> Proc<B> {
+impl<B: Book + Drop> Proc<B> {
     /// A process with nothing placed: it has its stack alone, and its input. Nothing has happened to its book.
     pub fn start(alloc: Global, setup: Setup, book: B) -> Result<Self, AllocError>
         requires new { B.ledger book ≡ new_ledger }

@@ -2,7 +2,9 @@
 ghost use Rattle.std.specs.Prelude.{◌≡◌, ◌<◌, ◌≤◌, true, Some, is_some, length, map, IfOk, OnOk, OnErr, IsErr};
 ghost use Rattle.std.specs.Arc.{arc_value};
 ghost use Rattle.std.specs.FinMap as fin;
+ghost use Rattle.std.specs.List.{All};
 ghost use Rattle.plain_machine.specs.Memory.{code_at};
+ghost use Rattle.unit_set.specs.Held.{IsFreshFor};
 ghost use Rattle.block_book.specs.Clauses.{IsClear, blocks_of};
 ghost use Rattle.block_ledger.specs.Ledger.{Segment, attached, candidates, flushed, offered, segment_of};
 ghost use Rattle.guest_proc.specs.Kept.{process_of, scheme_of};
@@ -34,7 +36,7 @@ impl<B: Book> Proc<B> {
         ensures lasts { OnOk result (self.new.spent ≡ self.old.spent) }
         ensures scheme { scheme_of self.new.at self.new.limits ≡ scheme_of self.old.at self.old.limits }
     {
-        let _ = unit.frags();
+        are_fresh(unit);
         let _ = self.at.mem.code_at(self.at.cpu.pc);
         if self.spent {
             return Err(AllocError);
@@ -97,4 +99,11 @@ fn segment_of(module: u32, seg: u8) -> u32
     ensures { result ≡ segment_of «module» seg }
 {
     4 * module + u32::from(seg)
+}
+
+// The blocks of a unit are those that are built in its image.
+fn are_fresh(unit: &Unit)
+    ensures { All (IsFreshFor unit.now.slot unit.now.image) unit.now.frags }
+{
+    let _ = unit.frags();
 }
