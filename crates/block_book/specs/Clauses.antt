@@ -2,6 +2,7 @@
 use Rattle.std.specs.Prelude.{◌≡◌, ℕ, ◌+◌, ◌*◌, ◌<◌, ◌≤◌, ◌&&◌, nat_le, nat_lt, true, false, List, length, map}
 use Rattle.std.specs.FinMap as fin
 use Rattle.cc_base.specs.Image.{Code}
+use Rattle.cc_base.specs.Span.{Range}
 use Rattle.fragment.specs.Parts.{Parts}
 use Rattle.block_ledger.specs.Ledger.{Ledger, Blocks, is_live}
 
@@ -10,6 +11,10 @@ pub record IsShort (f : Parts) : Type 0 where
   pub some : 0 < length f.words
   pub few : length f.words ≤ 64
   pub ends : f.address + 4 * length f.words ≤ 4294967295
+
+-- where a code lies
+abbrev pub region_of : Code → Range
+region_of image = record { start = image.start; len = length image.bytes }
 
 -- no live block begins in the region of this code
 abbrev pub IsClear : Code → Ledger → Type 0

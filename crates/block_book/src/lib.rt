@@ -3,19 +3,30 @@
 //! It stands on `block_ledger`. A process goes over any [`Book`]; the tables that meet it are a crate beside it.
 #![tactic(auto)]
 
-ghost use Rattle.std.specs.Prelude.{◌≡◌, ◌<◌, ℕ, true, false, OnOk, OnErr, IfOk, IfSome, option_map, is_some, map, Some};
+ghost use Rattle.std.specs.Prelude.{◌≡◌, ◌<◌, ℕ, List, true, false, OnOk, OnErr, IfOk, IfSome, option_map, is_some, map, Some};
 ghost use Rattle.std.specs.Arc.{arc_value};
 ghost use Rattle.std.specs.FinMap as fin;
+ghost use Rattle.cc_base.specs.Image.{Code};
 ghost use Rattle.fragment.specs.Parts.{Parts};
-ghost use Rattle.block_ledger.specs.Ledger.{Ledger, Segment, view, is_live, begun, left_by, written, flushed, wants_room, attached, candidates, offered};
+ghost use Rattle.block_ledger.specs.Ledger.{Ledger, Segment, view, is_live, begun, left_by, written, flushed, wants_room, attached, candidates, offered, unmapped};
 ghost use Rattle.block_ledger.specs.Traced.{range_of};
-ghost use Rattle.block_book.specs.Clauses.{IsShort, IsClear, blocks_of};
+ghost use Rattle.block_book.specs.Clauses.{IsShort, IsClear, blocks_of, region_of};
 
 use cc_base::Span;
 use fragment::Fragment;
 use std::alloc::{AllocError, Global};
 use std::sync::Arc;
 use unit_set::Unit;
+
+/// How often a block began, and one of an attached unit did; how many blocks were built; and how often a link led to the
+/// block that began.
+#[derive(Clone, Copy, Debug, PartialEq, Eq)]
+pub struct Counts {
+    pub blocks: u64,
+    pub reused: u64,
+    pub built: u64,
+    pub linked: u64,
+}
 
 /// What stands ready, what is linked, and the counts.
 pub trait Book {
@@ -74,4 +85,13 @@ pub trait Book {
         ensures blocks { IfOk result (λ blocks. (s : Segment) → fin.get (ledger self.old).segments segment ≡ Some s → blocks.items ≡ map (λ e. e.1) (candidates s (ledger self.old))) }
         ensures ok { OnOk result (ledger self.new ≡ offered segment (ledger self.old)) }
         ensures err { OnErr result (ledger self.new ≡ ledger self.old) };
+
+    /// A module goes that has its code in these regions: their blocks, and its segments. It takes no memory.
+    fn unmap(&mut self, number: u32, regions: &[Span])
+        requires { number < 1073741824 }
+        ensures { (codes : List Code) → regions.now ≡ map region_of codes → ledger self.new ≡ unmapped number codes (ledger self.old) };
+
+    /// What happened so far.
+    fn counts(&self) -> Counts
+        ensures { record { blocks = result.blocks; reused = result.reused; built = result.built; linked = result.linked } ≡ (ledger self.now).counts };
 }

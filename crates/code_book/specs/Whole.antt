@@ -7,12 +7,9 @@ use Rattle.cc_base.specs.Span.{Range}
 use Rattle.fragment.specs.Parts.{Parts}
 use Rattle.fragment.specs.declared.Exit.{Exit}
 use Rattle.fragment.specs.declared.Exit.TheVariants.{Direct, Indirect, Asks, Stop}
-pub use Rattle.block_book.specs.Clauses.{blocks_of, IsClear}
+pub use Rattle.block_book.specs.Clauses.{blocks_of, IsClear, region_of}
 use Rattle.block_ledger.specs.Ledger.{Ledger, Blocks, with_all, links_of, exit_at, is_live}
 use Rattle.code_book.specs.Book.{IsShort, outside}
-
-abbrev pub region_of : Code → Range
-region_of image = record { start = image.start; len = length image.bytes }
 
 -- no live block begins in the region
 abbrev pub IsClearOf : Range → Ledger → Type 0

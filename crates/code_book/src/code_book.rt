@@ -1,20 +1,12 @@
 // The book of a process.
 ghost use Rattle.code_book.specs.Book.{book, IsKept};
 
+use block_book::Counts;
 use code_writes::Covers;
 use exit_links::Links;
 use frag_table::FragTable;
 use merge_pass::Segments;
 use std::alloc::Global;
-
-/// What happened so far.
-#[derive(Clone, Copy, Debug)]
-pub struct Counts {
-    pub blocks: u64,
-    pub reused: u64,
-    pub built: u64,
-    pub linked: u64,
-}
 
 /// The live blocks of a process by place, their links, and what a write meets.
 #[derive(Drop)]

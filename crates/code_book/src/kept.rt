@@ -2,7 +2,7 @@
 ghost use Rattle.code_book.specs.View.{ledger_of};
 
 use crate::code_book::CodeBook;
-use block_book::Book;
+use block_book::{Book, Counts};
 use cc_base::Span;
 use fragment::Fragment;
 use std::alloc::{AllocError, Global};
@@ -50,5 +50,13 @@ impl Book for CodeBook {
 
     fn offer(&mut self, alloc: Global, segment: u32) -> Result<Vec<Fragment>, AllocError> {
         self.offer_to(alloc, segment)
+    }
+
+    fn unmap(&mut self, number: u32, regions: &[Span]) {
+        self.withdraw_module(number, regions);
+    }
+
+    fn counts(&self) -> Counts {
+        self.counts_so_far()
     }
 }

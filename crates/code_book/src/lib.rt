@@ -21,4 +21,4 @@ mod units;
 mod unplace;
 mod withdraw;
 
-pub use code_book::{CodeBook, Counts};
+pub use code_book::CodeBook;

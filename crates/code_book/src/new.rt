@@ -3,7 +3,8 @@ ghost use Rattle.std.specs.Prelude.{◌≡◌, IfOk};
 ghost use Rattle.block_ledger.specs.Ledger.{new_ledger};
 ghost use Rattle.code_book.specs.View.{ledger_of};
 
-use crate::code_book::{CodeBook, Counts};
+use crate::code_book::CodeBook;
+use block_book::Counts;
 use code_writes::Covers;
 use exit_links::Links;
 use frag_table::FragTable;

@@ -1,3 +1,4 @@
 pub mod NumberLemmas
 pub mod HeaderLemmas
 pub mod RuleLemmas
+pub mod SpanLemmas

@@ -1,6 +1,7 @@
 -- The executable segments of a program, and what a program keeps.
 use Rattle.std.specs.Prelude.{◌≡◌, ℕ, ◌+◌, ◌<◌, ◌≤◌, Bool, true, if◌then◌else◌, List, length, take, drop, map, filter}
-use Rattle.cc_base.specs.Image.{Text}
+use Rattle.cc_base.specs.Image.{Text, start_of}
+use Rattle.cc_base.specs.Span.{Range}
 use Rattle.plain_machine.specs.Program.{Program, Segment, area_of}
 
 abbrev pub executes : Segment → Bool
@@ -13,6 +14,14 @@ text_of fixed s = record { vaddr = s.vaddr; fixed = fixed; bytes = (area_of 0 s)
 -- the executable segments, numbered from 0 in their order
 abbrev pub texts_of : Program → List Text
 texts_of program = map (text_of program.fixed) (filter executes program.segments)
+
+-- where an executable segment lies, with the module at this base
+abbrev pub span_at : ℕ → Text → Range
+span_at base text = record { start = start_of text base; len = length text.bytes }
+
+-- where they all do
+abbrev pub spans_of : Program → ℕ → List Range
+spans_of program base = map (span_at base) (texts_of program)
 
 -- the most bytes of a segment
 abbrev pub size_limit : Bool → ℕ

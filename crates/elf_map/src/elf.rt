@@ -2,7 +2,7 @@ ghost use Rattle.std.specs.Prelude.{◌≡◌, ◌+◌, ◌<◌, ℕ, ◌≤◌,
 ghost use Rattle.std.specs.List.{list_all, list_any};
 ghost use Rattle.cc_base.specs.Image.{start_of};
 ghost use Rattle.plain_machine.specs.Program.{base_of, runs_at, can_enter, entry_of, placed, unplaced, top_of, greatest_end};
-ghost use Rattle.elf_map.specs.Program.{executes, texts_of};
+ghost use Rattle.elf_map.specs.Program.{executes, spans_of, texts_of};
 ghost use Rattle.elf_map.specs.Elf.{elf_of, headers, header_rules, first_failing, is_sound, segments_of};
 ghost use Rattle.elf_map.specs.Results.{Reads, Places};
 
@@ -11,7 +11,7 @@ use crate::error::ElfErr;
 use crate::header::{Headers, u16_at, u32_at};
 use crate::place::{greatest_end, place, unplace};
 use crate::segment::FileSegment;
-use cc_base::{Blob, FileCode};
+use cc_base::{Blob, FileCode, Span};
 use guest_mem::Mem;
 use plain_machine::MemErr;
 use std::alloc::{AllocError, Global};
@@ -68,6 +68,15 @@ impl Elf {
         ensures end { IfOk result (λ code. (base : ℕ) → start_of code base + length code.bytes ≤ top_of self.now base) }
     {
         code_at(&self.segments, seg).code(self.fixed)
+    }
+
+    /// Where the executable segment of this number lies at this base.
+    pub fn code_span(&self, seg: u8, base: u32) -> Span
+        requires seg { seg < length (texts_of self.now) }
+        requires top { top_of self.now base ≤ 4294967295 }
+        ensures { slice_get (spans_of self.now base) seg ≡ Some result }
+    {
+        code_at(&self.segments, seg).span(self.base(base))
     }
 
     /// The entry at this base, where it is an address, a multiple of four, and the start of a word in one executable

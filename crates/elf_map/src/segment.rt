@@ -8,7 +8,7 @@ ghost use Rattle.elf_map.specs.Elf.{flags_of, is_mapped, is_sound, segment_of};
 ghost use Rattle.std.specs.Arc.{arc_value};
 
 use crate::header::ProgramHeader;
-use cc_base::{Blob, FileCode};
+use cc_base::{Blob, FileCode, Span};
 use guest_mem::Mem;
 use plain_machine::{Flags, MemErr};
 use std::alloc::{AllocError, Global};
@@ -112,6 +112,18 @@ impl FileSegment {
         ensures { result ≡ base + self.now.vaddr + self.now.size }
     {
         base + self.vaddr + self.size
+    }
+
+    /// Where it lies at this base.
+    pub fn span(&self, base: u32) -> Span
+        requires { base + self.now.vaddr + self.now.size ≤ 4294967295 }
+        ensures span { result ≡ record { start = base + self.now.vaddr; len = self.now.size } }
+        ensures len { length (area_of 0 self.now).bytes ≡ self.now.size }
+    {
+        Span {
+            start: base + self.vaddr,
+            len: self.size,
+        }
     }
 
     /// Whether it may be executed.

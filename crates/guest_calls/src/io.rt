@@ -140,6 +140,13 @@ impl GuestIo {
         self.heap
     }
 
+    /// The heap is empty, at that address; for `None` there is none.
+    pub fn start_heap(&mut self, at: Option<u32>)
+        ensures { self.new ≡ record self.old { heap = option_map (λ at. record { start = at; end = at }) at } }
+    {
+        self.heap = at.map(|at| Heap { start: at, end: at });
+    }
+
     /// Puts the heap there.
     pub(crate) fn set_heap(&mut self, heap: Heap)
         ensures { self.new ≡ record self.old { heap = Some heap } }

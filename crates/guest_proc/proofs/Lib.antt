@@ -1,3 +1,4 @@
+pub mod Fetching
 pub mod Put
 pub mod Kept
 pub mod Marks
@@ -7,3 +8,8 @@ pub mod One
 pub mod Beginning
 pub mod More
 pub mod Starting
+pub mod Entering
+pub mod Coming
+pub mod Attaching
+pub mod Going
+pub mod Spans

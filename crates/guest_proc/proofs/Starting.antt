@@ -15,7 +15,9 @@ use Rattle.block_ledger.specs.Traced.{Scheme}
 use Rattle.block_ledger.proofs.Gets.{got-empty}
 use Rattle.region_laws.specs.Heap.{HeapIsData}
 use Rattle.guest_proc.specs.Kept.{IsReady}
-use Rattle.guest_proc.specs.Process.{process}
+use Rattle.guest_proc.specs.declared.running.Setup.{Setup}
+use Rattle.guest_proc.specs.Process.{Process, process}
+use Rattle.guest_proc.specs.Started.{first_process}
 
 nothing-live : (a : ℕ) → view new_ledger a ≡ None
 nothing-live a = ap (λ o. option_or o (fin.get new_ledger.private a)) (got-empty {X = Parts} a) ∙ got-empty {X = Parts} a
@@ -35,3 +37,10 @@ starts_ready scheme cpu m io fuel rows led new even inert empty less = record {
   small = λ key. small_start rows fuel key empty less;
   few = let none : led.counts.blocks ≡ 0 = ap (λ l. l.counts.blocks) new in omega arith;
 }
+
+-- the first of all
+pub first-ready : (scheme : Scheme) (setup : Setup) (p : Process) → p ≡ first_process setup → IsReady scheme p
+first-ready scheme setup p is =
+    let f : Process = first_process setup in
+    let few : setup.fuel < 2 ^ 63 = omega (arith, setup.fuel_fits) in
+    subst (IsReady scheme) (sym is) (starts_ready scheme f.state.cpu f.state.memory f.state.io f.fuel f.report f.ledger refl refl refl refl few)

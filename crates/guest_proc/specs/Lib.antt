@@ -3,3 +3,5 @@ pub mod Process
 pub mod Begun
 pub mod Kept
 pub mod Called
+pub mod Started
+pub mod Maps

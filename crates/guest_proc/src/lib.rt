@@ -8,14 +8,20 @@
 mod begin;
 mod block;
 mod call;
+mod place;
 mod process;
 mod ready;
 mod run;
 mod running;
+mod start;
 mod stop;
 #[cfg(test)]
 mod tests;
+mod told;
+mod units;
+mod unplace;
 
+pub use block_book::Counts;
 pub use process::Proc;
-pub use running::{Limits, Running};
+pub use running::{Limits, Running, Setup};
 pub use stop::Stop;

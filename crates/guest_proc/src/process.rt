@@ -7,7 +7,7 @@ use block_book::Book;
 use std::alloc::Global;
 
 /// A guest process: what runs, and its book of blocks. Where a call of it answered want of memory it is spent, and each
-/// later call that may answer so does.
+/// later call that may answer so does. It is entered once its program was placed.
 #[derive(Drop)]
 pub struct Proc<B: Book> {
     pub(crate) alloc: Global,
@@ -15,5 +15,6 @@ pub struct Proc<B: Book> {
     pub limits: Limits,
     pub book: B,
     pub spent: bool,
+    pub entered: bool,
     ghost ready: { spent ≡ false → IsReady (scheme_of at limits) (process_of at (B.ledger book)) },
 }

@@ -1,5 +1,5 @@
 // A process runs.
-ghost use Rattle.std.specs.Prelude.{◌≡◌, ◌⊎◌, ◌<◌, ◌%◌, ◌^◌, true, false, None, Some, IfOk, OnOk, OnErr, IsErr};
+ghost use Rattle.std.specs.Prelude.{◌≡◌, ◌⊎◌, ◌<◌, ◌%◌, ◌^◌, [], true, false, None, Some, IfOk, OnOk, OnErr, IsErr};
 ghost use Rattle.std.specs.FinMap as fin;
 ghost use Rattle.block_ledger.specs.Ledger.{new_ledger};
 ghost use Rattle.region_laws.specs.Heap.{HeapIsData};
@@ -12,14 +12,15 @@ use crate::process::Proc;
 use crate::running::{Limits, Running};
 use crate::stop::Stop;
 use block_book::Book;
-use block_build::Maker;
+use block_build::{Maker, PlainMaker};
 use cc_base::Steps;
 use plain_machine::{End, Kind};
 use std::alloc::{AllocError, Global};
 use std::sync::ledger::Ledger;
 
 impl<B: Book> Proc<B> {
-    /// A process before its first block: nothing has happened to its book, and its report is empty.
+    /// A process before its first block, with its program in place: nothing has happened to its book, and its report is
+    /// empty.
     pub fn of(alloc: Global, at: Running, limits: Limits, book: B) -> Self
         requires new { B.ledger book ≡ new_ledger }
         requires aligned { at.cpu.pc % 4 ≡ 0 }
@@ -28,6 +29,7 @@ impl<B: Book> Proc<B> {
         requires fuel { at.fuel < 2 ^ 63 }
         ensures parts { (result.at ≡ at) × (result.limits ≡ limits) × (result.book ≡ book) }
         ensures fresh { result.spent ≡ false }
+        ensures entered { result.entered ≡ true }
     {
         Proc {
             alloc,
@@ -35,6 +37,7 @@ impl<B: Book> Proc<B> {
             limits,
             book,
             spent: false,
+            entered: true,
         }
     }
 
@@ -74,6 +77,7 @@ impl<B: Book> Proc<B> {
         ensures spent { self.old.spent ≡ true → IsErr result }
         ensures after { OnErr result (self.new.spent ≡ true) }
         ensures lasts { OnOk result (self.new.spent ≡ self.old.spent) }
+        ensures entered { self.new.entered ≡ self.old.entered }
         ensures scheme { scheme_of self.new.at self.new.limits ≡ scheme_of self.old.at self.old.limits }
     {
         if self.spent {
@@ -112,6 +116,7 @@ impl<B: Book> Proc<B> {
         ensures wants { OnErr result ((self.old.spent ≡ true) ⊎ CameToWant (scheme_of self.old.at self.old.limits) (process_of self.old.at (B.ledger self.old.book))) }
         ensures after { OnErr result (self.new.spent ≡ true) }
         ensures lasts { OnOk result (self.new.spent ≡ self.old.spent) }
+        ensures entered { self.new.entered ≡ self.old.entered }
         ensures scheme { scheme_of self.new.at self.new.limits ≡ scheme_of self.old.at self.old.limits }
     {
         loop {
@@ -119,5 +124,20 @@ impl<B: Book> Proc<B> {
                 return Ok(stop);
             }
         }
+    }
+
+    /// The same, where each block that isn't live is built.
+    pub fn run<L: Ledger>(&mut self, steps: &mut Steps<L>) -> Result<Stop, AllocError>
+        ensures ran { IfOk result (RanOn (scheme_of self.old.at self.old.limits) (process_of self.old.at (B.ledger self.old.book)) (process_of self.new.at (B.ledger self.new.book))) }
+        ensures keeps { OnOk result (Keeps (process_of self.old.at (B.ledger self.old.book)) (process_of self.new.at (B.ledger self.new.book))) }
+        ensures asks { IfOk result (λ stop. StopsWell (Some stop) self.new.at.io) }
+        ensures made { OnOk result (AreMade (B.ledger self.old.book).counts.built (B.ledger self.new.book).counts.built steps.old steps.new [] []) }
+        ensures wants { OnErr result ((self.old.spent ≡ true) ⊎ CameToWant (scheme_of self.old.at self.old.limits) (process_of self.old.at (B.ledger self.old.book))) }
+        ensures after { OnErr result (self.new.spent ≡ true) }
+        ensures lasts { OnOk result (self.new.spent ≡ self.old.spent) }
+        ensures entered { self.new.entered ≡ self.old.entered }
+        ensures scheme { scheme_of self.new.at self.new.limits ≡ scheme_of self.old.at self.old.limits }
+    {
+        self.run_with(&mut PlainMaker, steps)
     }
 }

@@ -32,7 +32,7 @@ module _ (r : Area) where
   some_within (q ∷ xs) ys fits = some_within xs ys fits.2
 
   -- no region before it meets it
-  not_before : (t : Area → Bool) (h : (q : Area) → 0 < length q.bytes → t q ≡ true → meets q.start (length q.bytes) r ≡ true) (xs ys : Memory) → AreDisjoint (xs ++ r ∷ ys) → AreInRange (xs ++ r ∷ ys) → find t xs ≡ None
+  pub not_before : (t : Area → Bool) (h : (q : Area) → 0 < length q.bytes → t q ≡ true → meets q.start (length q.bytes) r ≡ true) (xs ys : Memory) → AreDisjoint (xs ++ r ∷ ys) → AreInRange (xs ++ r ∷ ys) → find t xs ≡ None
   not_before t h [] ys d fits = refl
   not_before t h (q ∷ xs) ys d fits = elim (cases_Bool (t q)) [
     | inl here ↦ let met = h q fits.0 here in let apart = any_in (meets q.start (length q.bytes)) xs ys d.0 in absurd (cc)
@@ -80,7 +80,7 @@ pub same_ok : (a b : Memory) → ◌≡◌ {A = Result Memory MemErr} (Ok a) (Ok
 same_ok a b e = cc
 
 -- what was placed stands behind what there was
-tail_of : (m after : Memory) (base : ℕ) (ss : List Segment) → with_segments m base ss ≡ Ok after → (ys : Memory) × (after ≡ m ++ ys)
+pub tail_of : (m after : Memory) (base : ℕ) (ss : List Segment) → with_segments m base ss ≡ Ok after → (ys : Memory) × (after ≡ m ++ ys)
 tail_of m after base [] e = ([], sym (same_ok m after e) ∙ sym (append-nil m))
 tail_of m after base (s ∷ ss) e =
     let both = made (refusal m (base + s.vaddr) s.size) (with_segments (m ++ area_of base s ∷ []) base ss) after e in

@@ -9,6 +9,7 @@ pub loop-stop-init : goal.loop-stop-init
 loop-stop-init g c = record {
   scheme = refl;
   spent = refl;
+  entered = refl;
   went = start-on (scheme_of c.args.self.now.at c.args.self.now.limits) (process_of c.args.self.now.at (g.B.Book.ledger c.args.self.now.book));
   keeps = keeps-all (process_of c.args.self.now.at (g.B.Book.ledger c.args.self.now.book));
   made = made-none (g.B.Book.ledger c.args.self.now.book).counts.built c.args.steps.now (g.M.Maker.taken c.args.maker.now);
@@ -36,8 +37,15 @@ loop-stop-preserved g c =
     record {
       scheme = c.run_one.ensures.scheme ∙ c.loop-stop.invariant.scheme;
       spent = c.in_ok-stop.ensures.lasts ∙ c.loop-stop.invariant.spent;
+      entered = c.run_one.ensures.entered ∙ c.loop-stop.invariant.entered;
       went = one-more-on (scheme_of c.args.self.now.at c.args.self.now.limits) (process_of c.args.self.now.at (g.B.Book.ledger c.args.self.now.book)) (process_of c.loop-stop.self.at (g.B.Book.ledger c.loop-stop.self.book)) (process_of c.run_one.new.self.at (g.B.Book.ledger c.run_one.new.self.book)) c.loop-stop.invariant.went (subst (λ o. RanOne (scheme_of c.args.self.now.at c.args.self.now.limits) (process_of c.loop-stop.self.at (g.B.Book.ledger c.loop-stop.self.book)) (process_of c.run_one.new.self.at (g.B.Book.ledger c.run_one.new.self.book)) o) c.in_default.is here);
       keeps = keeps-both (process_of c.args.self.now.at (g.B.Book.ledger c.args.self.now.book)) (process_of c.loop-stop.self.at (g.B.Book.ledger c.loop-stop.self.book)) (process_of c.run_one.new.self.at (g.B.Book.ledger c.run_one.new.self.book)) c.loop-stop.invariant.keeps c.in_ok-stop.ensures.keeps;
       made = made-both (g.B.Book.ledger c.args.self.now.book).counts.built (g.B.Book.ledger c.loop-stop.self.book).counts.built (g.B.Book.ledger c.run_one.new.self.book).counts.built c.args.steps.now c.loop-stop.steps c.run_one.new.steps
           (g.M.Maker.taken c.args.maker.now) (g.M.Maker.taken c.loop-stop.maker) (g.M.Maker.taken c.run_one.new.maker) c.loop-stop.invariant.made c.in_ok-stop.ensures.made;
     }
+
+pub returns-in_err-stop-clause-entered : goal.returns-in_err-stop-clause-entered
+returns-in_err-stop-clause-entered g c = c.run_one.ensures.entered ∙ c.loop-stop.invariant.entered
+
+pub returns-in-Some-clause-entered : goal.returns-in-Some-clause-entered
+returns-in-Some-clause-entered g c = c.run_one.ensures.entered ∙ c.loop-stop.invariant.entered
