@@ -31,7 +31,7 @@ use Rattle.block_book.specs.Clauses.{IsShort}
 use Rattle.block_ledger.specs.Ledger.{Ledger, begun, counted, found, is_live, is_private, is_shared, view}
 use Rattle.block_ledger.specs.Traced.{built_in}
 use Rattle.block_ledger.proofs.Gets.{got-insert}
-use Rattle.guest_run.proofs.Fetching.{unfetched-none, built-none}
+use Rattle.guest_proc.proofs.Fetching.{unfetched-none, built-none}
 use Rattle.guest_proc.specs.Fresh.{AreFresh, block_in}
 use Rattle.guest_proc.specs.Begun.{AreMade, HasBegun}
 use Rattle.guest_proc.proofs.Put.{found-at}

@@ -1,3 +1,4 @@
+pub mod Fetching
 pub mod Put
 pub mod Kept
 pub mod Marks
