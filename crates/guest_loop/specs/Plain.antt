@@ -23,9 +23,13 @@ scheme_for setup = record { tool = setup.tool; max = setup.max; pool = setup.poo
 abbrev pub counts_of : Told → Counts
 counts_of told = record { blocks = told.blocks; reused = told.reused; built = told.built; linked = told.linked }
 
+-- none of the units has a block
+abbrev pub AreEmpty : List (List ℕ) → Type 0
+AreEmpty units = All (λ addresses. addresses ≡ []) units
+
 -- The ledger of the guest's plain run has these counts, where no unit that is attached has a block.
 pub record HasCounts (w : Setting) (scheme : Scheme) (g : Guest) (maps : List ℕ) (counts : Counts) : Type 0 where
   -- the addresses of the blocks of each attached unit
   pub units : List (List ℕ)
-  pub empty : All (λ addresses. addresses ≡ []) units
+  pub empty : AreEmpty units
   pub counted : (run_trace w scheme g maps units).ledger.counts ≡ counts

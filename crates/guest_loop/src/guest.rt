@@ -1,4 +1,5 @@
-ghost use Rattle.std.specs.Prelude.{◌≤◌, ◌<◌};
+ghost use Rattle.std.specs.Prelude.{◌≡◌, ◌≤◌, ◌<◌, true};
+ghost use Rattle.unit_set.specs.Slot.{is_module};
 
 use cc_base::{Blob, Name};
 use plain_machine::End;
@@ -25,12 +26,14 @@ pub struct Setup {
     ghost stack_fits: { stack ≤ 1048576 },
 }
 
-/// The one module of a guest: where it is to stand, the number of the file that it is at the start, and its name.
+/// The one module of a guest: where it is to stand, the number of the file that it is at the start, and its name, of 1 to 16
+/// of the characters a to z, 0 to 9, `_` and `-`.
 #[derive(Debug, Drop)]
 pub struct Module {
     pub base: u32,
     pub file: u32,
     pub name: Name,
+    ghost named: { is_module name ≡ true },
 }
 
 /// How often blocks began, how often one of an attached unit did, how many were built, and how often a link led to the
