@@ -1,5 +1,5 @@
-//! Runs the guest of a manifest: `cachehost run FILE`, on the files of the working folder and standard output. The exit status is the
-//! host's. It stands on `host` and `outside`, and on the clause of `host::host` for the rest.
+//! Runs the guest of a manifest: `cachehost run FILE`, or `cachehost run FILE --counts`, on the files of the working folder and standard
+//! output. The exit status is the host's. It stands on `host` and `outside`, and on the clause of `host::host` for the rest.
 #![tactic(auto)]
 
 use host::host;

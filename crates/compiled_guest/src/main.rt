@@ -4,8 +4,8 @@
 //! It stands on `host` and `outside`.
 #![tactic(auto)]
 
-ghost use Rattle.std.specs.Prelude.{◌≡◌, Some, codes, IfOk};
-ghost use Rattle.host.specs.Outcome.{file_named};
+ghost use Rattle.std.specs.Prelude.{◌≡◌, Some, codes, false, IfOk};
+ghost use Rattle.host.specs.Words.{order_of};
 
 use host::host;
 use outside::{DiskFiles, StdSink};
@@ -25,7 +25,7 @@ fn main(rt: HostRuntime) -> ExitCode {
 
 // The words that have the host run the guest.
 fn words(alloc: Global) -> Result<Vec<String>, AllocError>
-    ensures { IfOk result (λ words. file_named words.items ≡ Some (codes "letters.toml")) }
+    ensures { IfOk result (λ words. order_of words.items ≡ Some (record { file = codes "letters.toml"; counts = false })) }
 {
     let mut words = Vec::new(alloc);
     words.push(String::from_str(alloc, "run")?)?;

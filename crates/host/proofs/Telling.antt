@@ -11,7 +11,8 @@ use Rattle.host_text.specs.declared.cause.Cause.{Cause}
 use Rattle.host_text.specs.declared.cause.Cause.TheVariants as causes
 use Rattle.host_text.proofs.Written.{nothing_more}
 use Rattle.host.specs.declared.ended.GuestEnd.{GuestEnd}
-use Rattle.host.specs.Outcome.{Plan, Source, file_named, outcome, answers_of, IsSteady}
+use Rattle.host.specs.Words.{order_of}
+use Rattle.host.specs.Outcome.{Plan, Source, outcome, answers_of, IsSteady}
 use Rattle.host.specs.Answer.{Seen, is_exit, cause_of, Runs, Refuses, Prints, TellsLine, TellsRefusal, Tells, IsOfRun, Decides, IsFair, RanOrMemory}
 use Rattle.host.proofs.Told.{same_told, err_cause, just_words, just_refusals, IsRefusal}
 
@@ -136,7 +137,7 @@ run_words cause (inl done) is = let h : causes.Done ≡ causes.Words = sym done 
 run_words cause (inr (inl ended)) is = let h : causes.GuestEnded ≡ causes.Words = sym ended ∙ is in cc
 run_words cause (inr (inr sink)) is = let h : causes.Sink ≡ causes.Words = sym sink ∙ is in cc
 
-pub words_only : (words : List (String Global)) (s : Source) (cause : Cause) → (cause ≢ causes.Memory → Refuses words s cause) → cause ≡ causes.Words → file_named words ≡ None
+pub words_only : (words : List (String Global)) (s : Source) (cause : Cause) → (cause ≢ causes.Memory → Refuses words s cause) → cause ≡ causes.Words → order_of words ≡ None
 words_only words s cause why is =
     let other : cause ≢ causes.Memory = λ memory. let h : causes.Words ≡ causes.Memory = sym is ∙ memory in cc in
     let r = why other in

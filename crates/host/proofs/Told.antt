@@ -13,7 +13,8 @@ use Rattle.elf_map.specs.declared.error.ElfErr.{ElfErr}
 use Rattle.elf_map.specs.Elf.{elf_of}
 use Rattle.host_text.specs.declared.cause.Cause.{Cause}
 use Rattle.host_text.specs.declared.cause.Cause.TheVariants as causes
-use Rattle.host.specs.Outcome.{Place, Manifest, File, Input, limit_of, Answer, Source, Agrees, Answers, AllAgree, file_named, named, listed, alone, each, taken, programs_of, outcome, answer_of, answers_of, IsSteady}
+use Rattle.host.specs.Outcome.{Place, Manifest, File, Input, limit_of, Answer, Source, Agrees, Answers, AllAgree, ordered, listed, alone, each, taken, programs_of, outcome, answer_of, answers_of, IsSteady}
+use Rattle.host.specs.Words.{Order, order_of}
 use Rattle.host.proofs.Steps.{Same, same_steps, fails_in}
 
 abbrev the_err : (A : Type 0) → Cause → Result A Cause
@@ -75,8 +76,8 @@ same_each a b (name ∷ names) same =
 
 same_outcome : (words : List (String Global)) (a b : Answers) → ((place : Place) (name : List ℕ) → Same (a place name) (b place name)) → Same (outcome words a) (outcome words b)
 same_outcome words a b same =
-    same_steps (named (file_named words)) (named (file_named words)) _ _ (inr refl) (λ name.
-    same_steps (a Manifest name) (b Manifest name) _ _ (same Manifest name) (λ text.
+    same_steps (ordered (order_of words)) (ordered (order_of words)) _ _ (inr refl) (λ order.
+    same_steps (a Manifest order.file) (b Manifest order.file) _ _ (same Manifest order.file) (λ text.
     same_steps (listed (manifest_of text)) (listed (manifest_of text)) _ _ (inr refl) (λ listing.
     same_steps (alone listing.modules listing.guests) (alone listing.modules listing.guests) _ _ (inr refl) (λ one.
     same_steps (each (λ i. a (File i)) listing.files) (each (λ i. b (File i)) listing.files) _ _ (same_each _ _ listing.files (λ i. same (File i))) (λ files.
@@ -152,16 +153,16 @@ programs_cause P closed (name ∷ names) (bytes ∷ files) cause is =
     (fails_in (programs_of names files) _ cause more.1))
     (fails_in (taken name (elf_of bytes)) _ cause is)
 
-named_cause : (o : Option (List ℕ)) (cause : Cause) → named o ≡ Err cause → (o ≡ None) × (cause ≡ causes.Words)
-named_cause None cause is = (refl, sym (err_cause causes.Words cause is))
-named_cause (Some name) cause is = cc
+ordered_cause : (o : Option Order) (cause : Cause) → ordered o ≡ Err cause → (o ≡ None) × (cause ≡ causes.Words)
+ordered_cause None cause is = (refl, sym (err_cause causes.Words cause is))
+ordered_cause (Some order) cause is = cc
 
 -- the words name no file, or the cause is one of those that come behind them
 pub outcome_cause : (P : Cause → Type 0) → Closed P → (words : List (String Global)) (s : Source) (answers : Answers) → AllAgree s answers → (cause : Cause) →
-    outcome words answers ≡ Err cause → ((file_named words ≡ None) × (cause ≡ causes.Words)) ⊎ P cause
+    outcome words answers ≡ Err cause → ((order_of words ≡ None) × (cause ≡ causes.Words)) ⊎ P cause
 outcome_cause P closed words s answers agree cause is =
-    ⊎_elim (λ none. inl (named_cause (file_named words) cause none))
-    (λ a. inr (⊎_elim (λ text. read_cause P closed s 1048576 a.0 cause (subst (Agrees s 1048576 a.0) text (agree Manifest a.0)))
+    ⊎_elim (λ none. inl (ordered_cause (order_of words) cause none))
+    (λ a. inr (⊎_elim (λ text. read_cause P closed s 1048576 a.0.file cause (subst (Agrees s 1048576 a.0.file) text (agree Manifest a.0.file)))
     (λ b. ⊎_elim (listed_cause P closed (manifest_of b.0) cause)
     (λ c. ⊎_elim (alone_cause P closed c.0.modules c.0.guests cause)
     (λ d. ⊎_elim (each_cause P closed s 4194304 _ (λ i. agree (File i)) c.0.files cause)
@@ -173,14 +174,14 @@ outcome_cause P closed words s answers agree cause is =
     (fails_in (each (λ i. answers (File i)) c.0.files) _ cause d.1))
     (fails_in (alone c.0.modules c.0.guests) _ cause c.1))
     (fails_in (listed (manifest_of b.0)) _ cause b.1))
-    (fails_in (answers Manifest a.0) _ cause a.1)))
-    (fails_in (named (file_named words)) _ cause is)
+    (fails_in (answers Manifest a.0.file) _ cause a.1)))
+    (fails_in (ordered (order_of words)) _ cause is)
 
 abbrev not_words : Cause → Type 0
 not_words cause = cause ≢ causes.Words
 
 -- just words that name no file are refused as words
-pub just_words : (words : List (String Global)) (s : Source) (answers : Answers) → AllAgree s answers → outcome words answers ≡ Err causes.Words → file_named words ≡ None
+pub just_words : (words : List (String Global)) (s : Source) (answers : Answers) → AllAgree s answers → outcome words answers ≡ Err causes.Words → order_of words ≡ None
 just_words words s answers agree is =
     let closed : Closed not_words = record {
       manifest = λ e is. cc;

@@ -6,6 +6,8 @@ use Rattle.plain_machine.specs.declared.ends.End.{End}
 use Rattle.plain_machine.specs.declared.ends.End.TheVariants as ends
 use Rattle.plain_machine.specs.Machine.{Guest, Setting}
 use Rattle.plain_machine.specs.Plain.{IsPlainRun}
+use Rattle.block_ledger.specs.Traced.{Scheme}
+use Rattle.guest_loop.specs.Plain.{HasCounts, counts_of}
 use Rattle.outside.specs.Faults.{Rose}
 use Rattle.outside.specs.Sink.{with_bytes}
 use Rattle.host_text.specs.Refusals.{refusal_text}
@@ -37,14 +39,19 @@ first_input (bytes ∷ inputs) = bytes
 abbrev pub guest_of : Plan → Guest
 guest_of plan = record { isa = plan.guest.isa; program = 0; stack = plan.guest.stack; input = first_input plan.inputs; fuel = plan.guest.fuel }
 
+-- how its blocks are made and kept
+abbrev pub scheme_of : Plan → Scheme
+scheme_of plan = record { tool = plan.guest.tool; max = plan.guest.max; pool = plan.guest.pool }
+
 -- The guest of a plan ended so and prints this text: by its plain run, whose map answers are those that its own calls
--- make them, where the module is its file at the start.
+-- make them, where the module is its file at the start; and its counts are those of the ledger of that run.
 pub record IsRunOf (plan : Plan) (guest : GuestEnd) (text : List ℕ) : Type 0 where
   pub output : List ℕ
   pub counts : Counts
   pub run : IsPlainRun (setting_of plan) (guest_of plan) plan.guest.tool plan.guest.max (plan.one.file ∷ []) guest.maps guest.end output counts
+  pub counted : HasCounts (setting_of plan) (scheme_of plan) (guest_of plan) guest.maps (counts_of guest.counts)
   pub named : guest.name ≡ plan.guest.name
-  pub printed : text ≡ text_of guest.name guest.end output (record { tool = plan.guest.tool; counts = counts })
+  pub printed : text ≡ text_of guest.name guest.end output (record { tool = plan.guest.tool; counts = counts }) plan.order.counts (counts_of guest.counts)
 
 -- Some answers to the reads, which all agree with what the files tell, give a plan whose guest ends and prints so.
 pub record Runs (words : List (String Global)) (s : Source) (guest : GuestEnd) (text : List ℕ) : Type 0 where

@@ -1,8 +1,7 @@
 -- What a call of the host comes to, by what its reads answer.
-use Rattle.std.specs.Prelude.{◌≡◌, ◌≢◌, ℕ, suc, ◌<◌, ◌≤◌, nat_le, List, [], ◌∷◌, length, codes, if◌then◌else◌, Option, Some, None, Result, Ok, Err, String, string_bytes}
+use Rattle.std.specs.Prelude.{◌≡◌, ◌≢◌, ℕ, suc, ◌<◌, ◌≤◌, nat_le, List, [], ◌∷◌, length, if◌then◌else◌, Option, Some, None, Result, Ok, Err, String}
 use Rattle.std.specs.declared.alloc.Global.{Global}
 use Rattle.std.specs.Option.{option_to_list}
-use Rattle.std.specs.Str.{bytes_eq}
 use Rattle.outside.specs.Faults.{Rose}
 use Rattle.outside.specs.Told.{Told, Untold, Absent, Holds, ForContent}
 use Rattle.plain_machine.specs.Program.{Program}
@@ -13,6 +12,7 @@ use Rattle.elf_map.specs.declared.error.ElfErr.{ElfErr}
 use Rattle.elf_map.specs.Elf.{elf_of}
 use Rattle.host_text.specs.declared.cause.Cause.{Cause}
 use Rattle.host_text.specs.declared.cause.Cause.TheVariants as causes
+use Rattle.host.specs.Words.{Order, order_of}
 
 -- ---- reads
 
@@ -68,16 +68,9 @@ abbrev pub ◌>>=◌ : {A B : Type 0} → Result A Cause → (A → Result B Cau
 (Ok x) >>= f = f x
 (Err cause) >>= f = Err cause
 
--- the file that the words name: they are `run` and its name
-abbrev pub file_named : List (String Global) → Option (List ℕ)
-file_named [] = None
-file_named (verb ∷ []) = None
-file_named (verb ∷ file ∷ []) = if bytes_eq (string_bytes verb) (codes "run") then Some (string_bytes file) else None
-file_named (verb ∷ file ∷ more ∷ words) = None
-
-abbrev pub named : Option (List ℕ) → Answer
-named None = Err causes.Words
-named (Some name) = Ok name
+abbrev pub ordered : Option Order → Result Order Cause
+ordered None = Err causes.Words
+ordered (Some order) = Ok order
 
 abbrev pub listed : Result Listing ManifestErr → Result Listing Cause
 listed (Ok listing) = Ok listing
@@ -109,8 +102,10 @@ programs_of (name ∷ names) (bytes ∷ files) = do
   rest ← programs_of names files
   Ok (program ∷ rest)
 
--- What is to be run: a module and a guest, the programs of all files, and what was read of the guest's input.
+-- What is to be run: what the words ask, a module and a guest, the programs of all files, and what was read of the
+-- guest's input.
 pub record Plan : Type 0 where
+  pub order : Order
   pub one : ModuleEntry
   pub guest : GuestEntry
   pub programs : List Program
@@ -119,14 +114,14 @@ pub record Plan : Type 0 where
 -- The work in its order. The first failure is what it comes to.
 abbrev pub outcome : List (String Global) → Answers → Result Plan Cause
 outcome words answers = do
-  name ← named (file_named words)
-  text ← answers Manifest name
+  order ← ordered (order_of words)
+  text ← answers Manifest order.file
   listing ← listed (manifest_of text)
   one ← alone listing.modules listing.guests
   files ← each (λ i. answers (File i)) listing.files
   inputs ← each (λ i. answers (Input i)) (option_to_list one.1.input)
   programs ← programs_of listing.files files
-  Ok (record { one = one.0; guest = one.1; programs = programs; inputs = inputs })
+  Ok (record { order = order; one = one.0; guest = one.1; programs = programs; inputs = inputs })
 
 -- ---- files that tell all
 

@@ -2,6 +2,7 @@
 ghost use Rattle.std.specs.Prelude.{◌≡◌};
 
 use cc_base::Name;
+use guest_loop::Counts;
 use host_text::Cause;
 use plain_machine::End;
 use std::marker::Model;
@@ -37,12 +38,13 @@ impl FileNumbers {
 }
 
 /// How a guest ended. `maps` are the files that its map answers were: first that of its program, then one for each call
-/// that mapped a module.
+/// that mapped a module. `counts` tells of its blocks how many began and were built.
 #[derive(Drop)]
 pub struct GuestEnd {
     pub name: Name,
     pub end: End,
     pub maps: FileNumbers,
+    pub counts: Counts,
 }
 
 /// How a call ended: its exit status, why, and the guests that were run.

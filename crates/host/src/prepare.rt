@@ -5,16 +5,18 @@ ghost use Rattle.manifest.specs.Names.{is_file_name};
 ghost use Rattle.manifest.specs.Manifest.{manifest_of};
 ghost use Rattle.elf_map.specs.Elf.{elf_of};
 ghost use Rattle.host.specs.Answer.{cause_of, first_input, IsRunOf, Refuses, Runs};
-ghost use Rattle.host.specs.Outcome.{alone, file_named, listed, programs_of, taken};
+ghost use Rattle.host.specs.Outcome.{alone, listed, programs_of, taken};
 ghost use Rattle.host.specs.Reading.{AreRead, Fails, Gives};
 ghost use Rattle.host.specs.Seen.{source_of};
+ghost use Rattle.host.specs.Words.{meant, order_of};
 ghost use Rattle.host.specs.declared.ended.GuestEnd.{GuestEnd};
 
 use crate::ended::{FileNumbers, GuestEnd};
 use crate::reading::{read_all, read_file};
+use crate::words::{Order, order_of};
 use cc_base::{Blob, Name};
 use elf_map::{Elf, ElfErr};
-use guest_run::{Module, Setup, run_guest};
+use guest_loop::{Module, Setup, run_guest};
 use host_text::{Cause, text_of};
 use manifest::{GuestRow, Manifest, ManifestErr, ModuleRow};
 use outside::Files;
@@ -41,12 +43,12 @@ pub fn prepare<F: Files>(alloc: Global, words: &[String], files: &mut F) -> Resu
     ensures done { IfOk result (λ p. (guest : GuestEnd) × (p.guests.items ≡ guest ∷ []) × (p.cause ≡ cause_of guest.end)
         × Runs words.now (source_of F.content F.faults files.old files.new) guest p.text.items) }
     ensures refused { IfErr result (λ cause. cause ≢ Cause.Memory → Refuses words.now (source_of F.content F.faults files.old files.new) cause) }
-    ensures words { file_named words.now ≡ None → result ≡ Err Cause.Words }
+    ensures words { order_of words.now ≡ None → result ≡ Err Cause.Words }
 {
-    let Some(name) = file_of(words) else {
+    let Some(order) = order_of(words) else {
         return Err(Cause::Words);
     };
-    let text = read_file(alloc, name, MOST_MANIFEST, files)?;
+    let text = read_file(alloc, order.file, MOST_MANIFEST, files)?;
     let manifest = manifest_in(alloc, text.items())?;
     let Some((module, guest)) = alone(&manifest) else {
         return Err(Cause::Unbuilt);
@@ -54,18 +56,7 @@ pub fn prepare<F: Files>(alloc: Global, words: &[String], files: &mut F) -> Resu
     let contents = read_all(alloc, manifest.files(), MOST_FILE, files)?;
     let input = read_input(alloc, guest, files)?;
     let elfs = elfs_in(alloc, manifest.files(), &contents)?;
-    Ok(run(alloc, &elfs, module, guest, input)?)
-}
-
-// The file that the words name.
-fn file_of(words: &[String]) -> Option<&str>
-    ensures none { result ≡ None → file_named words.now ≡ None }
-    ensures some { IfSome result (λ name. file_named words.now ≡ Some name.now) }
-{
-    match words {
-        [verb, file] if verb.as_str() == "run" => Some(file.as_str()),
-        _ => None,
-    }
+    Ok(run(alloc, order, &elfs, module, guest, input)?)
 }
 
 // What a text says as a manifest.
@@ -131,6 +122,7 @@ fn elf_in(alloc: Global, name: &Name, bytes: &[u8]) -> Result<Elf, Cause>
 // Runs the guest, and makes its text.
 fn run(
     alloc: Global,
+    order: Order<'_>,
     elfs: &[Elf],
     module: &ModuleRow,
     guest: &GuestRow,
@@ -138,7 +130,7 @@ fn run(
 ) -> Result<Prepared, AllocError>
     requires { «module».now.file < length elfs.now }
     ensures { IfOk result (λ p. (end : GuestEnd) × (p.guests.items ≡ end ∷ []) × (p.cause ≡ cause_of end.end)
-        × IsRunOf (record { one = «module».now; guest = guest.now; programs = elfs.now; inputs = input.items }) end p.text.items) }
+        × IsRunOf (record { order = meant order.entry; one = «module».now; guest = guest.now; programs = elfs.now; inputs = input.items }) end p.text.items) }
 {
     let setup = Setup {
         isa: guest.isa,
@@ -152,15 +144,17 @@ fn run(
     let placed = Module {
         base: module.base,
         file: module.file,
+        name: module.name.copy(alloc)?,
     };
-    let ran = run_guest(alloc, elfs, placed, &setup)?;
-    let text = text_of(alloc, &guest.name, &ran)?;
+    let ran = run_guest(alloc, elfs, &placed, setup)?;
+    let text = text_of(alloc, &guest.name, &ran, order.counts)?;
     let cause = cause_of(ran.end);
     let mut guests = Vec::new(alloc);
     guests.push(GuestEnd {
         name: guest.name.copy(alloc)?,
         end: ran.end,
         maps: FileNumbers::from_vec(ran.maps),
+        counts: ran.counts,
     })?;
     Ok(Prepared {
         text,

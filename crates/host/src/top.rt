@@ -2,8 +2,9 @@
 ghost use Rattle.std.specs.Prelude.{◌≡◌, ◌↔◌, None};
 ghost use Rattle.host_text.specs.Refusals.{status_of};
 ghost use Rattle.host.specs.Answer.{Decides, IsFair, RanOrMemory, Tells};
-ghost use Rattle.host.specs.Outcome.{answers_of, file_named, outcome, IsSteady};
+ghost use Rattle.host.specs.Outcome.{answers_of, outcome, IsSteady};
 ghost use Rattle.host.specs.Seen.{seen_of, source_of};
+ghost use Rattle.host.specs.Words.{order_of};
 
 use crate::ended::{Ended, GuestEnd};
 use crate::prepare::prepare;
@@ -12,7 +13,7 @@ use outside::{Files, Sink};
 use std::alloc::Global;
 
 /// Does what the words ask: `run FILE` reads the manifest FILE, its files and the input of its guest, runs the guest, and
-/// writes its text to the sink. It takes at most 1,048,576 bytes of FILE and of an input, and 4,194,304 of a file. The
+/// writes its text to the sink. The option `--counts` behind FILE adds the line of its counts. It takes at most 1,048,576 bytes of FILE and of an input, and 4,194,304 of a file. The
 /// first failure in this order is the answer: the words; FILE; its text; more than one module or guest; the files in
 /// order, then the input; each ELF file in order. `Cause::Memory` may come at any time, and then nothing was written. A
 /// refusal writes one line; where that fails, the status stays.
@@ -22,8 +23,8 @@ pub fn host<F: Files, K: Sink>(alloc: Global, words: &[String], files: &mut F, o
     ensures told { Tells words.now (seen_of F.content F.faults K.written K.faults files.old files.new out.old out.new)
         result.cause result.guests.items }
 
-    // Just the words that are not `run FILE` are refused as words.
-    ensures words { (result.cause ≡ Cause.Words) ↔ (file_named words.now ≡ None) }
+    // Just the words that are not `run FILE` with options are refused as words.
+    ensures words { (result.cause ≡ Cause.Words) ↔ (order_of words.now ≡ None) }
     // Where the files tell all, what they hold decides which failure comes, or that the guest is run.
     ensures decided { IsSteady (source_of F.content F.faults files.old files.new)
         → Decides (outcome words.now (answers_of (F.content files.old))) result.cause }

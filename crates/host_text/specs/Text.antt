@@ -1,5 +1,5 @@
 -- The printed text of a guest.
-use Rattle.std.specs.Prelude.{ℕ, List, ◌++◌, length, codes, decimal}
+use Rattle.std.specs.Prelude.{ℕ, Bool, if◌then◌else◌, List, [], ◌++◌, length, codes, decimal}
 use Rattle.std.specs.FinMap as fin
 use Rattle.probe_tools.specs.declared.tool.Tool.{Tool}
 use Rattle.probe_tools.specs.declared.tool.Tool.TheVariants as tools
@@ -9,6 +9,7 @@ use Rattle.plain_machine.specs.declared.ends.End.{End}
 use Rattle.plain_machine.specs.declared.ends.End.TheVariants as ends
 use Rattle.report.specs.Rows.{Rows}
 use Rattle.report.specs.Text.{hex, report_text}
+use Rattle.block_ledger.specs.Ledger.{Counts}
 
 abbrev pub kind_text : Kind → List ℕ
 kind_text kinds.Fetch = codes "fetch"
@@ -38,6 +39,14 @@ end_line end count = codes " " ++ end_text end ++ codes "\noutput " ++ decimal c
 unfoldable pub report_line : Rows → List ℕ
 report_line r = codes "\nreport " ++ tool_text r.tool ++ codes " " ++ decimal (fin.len r.counts) ++ codes "\n"
 
--- a guest by its name: its end, its output, and the rows of its report
-abbrev pub text_of : List ℕ → End → List ℕ → Rows → List ℕ
-text_of name end output r = codes "guest " ++ name ++ end_line end (length output) ++ output ++ report_line r ++ report_text r
+-- what was counted of its blocks
+unfoldable pub counts_line : Counts → List ℕ
+counts_line c = codes "counts blocks " ++ decimal c.blocks ++ codes " reused " ++ decimal c.reused ++ codes " built " ++ decimal c.built ++ codes " linked " ++ decimal c.linked ++ codes "\n"
+
+-- that line, where it is asked for
+abbrev pub counts_text : Bool → Counts → List ℕ
+counts_text asked c = if asked then counts_line c else []
+
+-- a guest by its name: its end, its output, the rows of its report, and its counts where they are asked for
+abbrev pub text_of : List ℕ → End → List ℕ → Rows → Bool → Counts → List ℕ
+text_of name end output r asked c = codes "guest " ++ name ++ end_line end (length output) ++ output ++ report_line r ++ report_text r ++ counts_text asked c

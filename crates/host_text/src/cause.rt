@@ -15,7 +15,7 @@ pub enum Cause {
     Done,
     /// A guest ended in another way.
     GuestEnded,
-    /// The words are not `run FILE`.
+    /// The words are not `run FILE`, with `--counts` behind it or without.
     Words,
     /// FILE is no manifest, by this first failing rule.
     Manifest(ManifestErr),

@@ -1,6 +1,6 @@
 //! The printed texts: what a run prints of a guest, and the line that tells why nothing was run.
 //!
-//! It stands on `report`, `manifest`, `elf_map`, `guest_run` and `outside`. The top call uses: [`text_of`] is the text of
+//! It stands on `report`, `manifest`, `elf_map`, `guest_loop` and `outside`. The top call uses: [`text_of`] is the text of
 //! a run; [`refuse`] writes the line of a cause, or a front of it where the sink failed.
 #![tactic(auto)]
 

@@ -1,8 +1,12 @@
-use crate::{Cause, print, refuse, status_of};
-use cc_base::Name;
+use crate::{Cause, print, refuse, status_of, text_of};
+use cc_base::{Blob, Name};
 use elf_map::ElfErr;
+use guest_loop::{Counts, Ran};
 use manifest::ManifestErr;
 use outside::{FuseSink, MemSink};
+use plain_machine::End;
+use probe_tools::{Event, Tool};
+use report::Report;
 use std::test::Fail;
 
 #[test]
@@ -28,5 +32,34 @@ fn a_line_that_fails_leaves_a_front(rt: HostRuntime) -> Result<(), Fail> {
     let cause = Cause::Long(Name::of(alloc, b"in")?);
     assert_eq!(&rt; refuse(&mut out, &cause).is_err(), true);
     assert_eq!(&rt; out.bytes(), b"error fi".as_slice());
+    Ok(())
+}
+
+#[test]
+fn the_counts_stand_behind_the_rows_where_they_are_asked_for(rt: HostRuntime) -> Result<(), Fail> {
+    let alloc = rt.alloc();
+    let mut report = Report::new(alloc, Tool::Blocks);
+    report.add(&Event::Block { at: 0x1_0000 })?;
+    let ran = Ran {
+        end: End::Exit(7),
+        maps: Vec::new(alloc),
+        output: Blob::of(alloc, b"hi")?,
+        report,
+        counts: Counts {
+            blocks: 21,
+            reused: 3,
+            built: 2,
+            linked: 14,
+        },
+    };
+    let name = Name::of(alloc, b"g1")?;
+    let plain = b"guest g1 exit 7\noutput 2\nhi\nreport blocks 1\n00010000 1\n";
+    assert_eq!(&rt;
+        text_of(alloc, &name, &ran, false)?.as_slice(),
+        plain.as_slice()
+    );
+    let mut text = Vec::from_slice(alloc, plain)?;
+    text.extend_from_slice(b"counts blocks 21 reused 3 built 2 linked 14\n")?;
+    assert_eq!(&rt; text_of(alloc, &name, &ran, true)?, text);
     Ok(())
 }

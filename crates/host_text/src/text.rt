@@ -1,18 +1,25 @@
 // The printed text of a guest.
 ghost use Rattle.std.specs.Prelude.{◌≡◌, ◌++◌, length, string_bytes, IfOk, OnOk};
 ghost use Rattle.std.specs.FinMap as fin;
-ghost use Rattle.host_text.specs.Text.{end_text, kind_text, tool_text, end_line, report_line, text_of};
+ghost use Rattle.guest_loop.specs.Plain.{counts_of};
+ghost use Rattle.host_text.specs.Text.{end_text, kind_text, tool_text, end_line, report_line, counts_line, text_of};
 
 use cc_base::Name;
-use guest_run::Ran;
+use guest_loop::{Counts, Ran};
 use plain_machine::{End, Kind};
 use probe_tools::Tool;
 use report::{Report, push_hex};
 use std::alloc::{AllocError, Global};
 
-/// What a run prints of a guest: how it ended, its output, and its report.
-pub fn text_of(alloc: Global, name: &Name, ran: &Ran) -> Result<Vec<u8>, AllocError>
-    ensures { IfOk result (λ text. text.items ≡ text_of name.now ran.now.end ran.now.output ran.now.report) }
+/// What a run prints of a guest: how it ended, its output, its report, and what was counted of its blocks, where that is
+/// asked for.
+pub fn text_of(
+    alloc: Global,
+    name: &Name,
+    ran: &Ran,
+    with_counts: bool,
+) -> Result<Vec<u8>, AllocError>
+    ensures { IfOk result (λ text. text.items ≡ text_of name.now ran.now.end ran.now.output ran.now.report with_counts (counts_of ran.now.counts)) }
 {
     let output = ran.output.items();
     let end = end_line(alloc, ran.end, output.len())?;
@@ -23,6 +30,9 @@ pub fn text_of(alloc: Global, name: &Name, ran: &Ran) -> Result<Vec<u8>, AllocEr
     text.extend_from_slice(output)?;
     text.extend_from_slice(report.as_bytes())?;
     ran.report.write_text(alloc, &mut text)?;
+    if with_counts {
+        text.extend_from_slice(counts_line(alloc, ran.counts)?.as_bytes())?;
+    }
     Ok(text)
 }
 
@@ -90,4 +100,23 @@ fn tool_text(tool: Tool) -> &'static str
         Tool::Calls => "calls",
         Tool::Memory => "memory",
     }
+}
+
+// What was counted of a guest's blocks.
+#[tactic(auto, unfolding(crate::specs::Text::counts_line))]
+fn counts_line(alloc: Global, counts: Counts) -> Result<String, AllocError>
+    ensures { IfOk result (λ text. string_bytes text ≡ counts_line (counts_of counts)) }
+{
+    let Counts {
+        blocks,
+        reused,
+        built,
+        linked,
+    } = counts;
+    let mut text = String::new(alloc);
+    writeln!(
+        text,
+        "counts blocks {blocks} reused {reused} built {built} linked {linked}"
+    )?;
+    Ok(text)
 }

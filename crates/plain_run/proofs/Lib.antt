@@ -1,3 +1,9 @@
+mod Called
+mod Entering
+mod Knowing
+mod Behind
 mod Finding
+mod Rows
+mod Whole
 mod Stepping
 mod Progress

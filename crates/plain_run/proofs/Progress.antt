@@ -12,8 +12,8 @@ use Rattle.plain_machine.specs.Cut.{marked_in, marked, with_marks, over}
 use Rattle.plain_machine.specs.Own.{own_answers}
 use Rattle.plain_machine.specs.Events.{events}
 use Rattle.plain_machine.proofs.RunLaws.{run-zero, with-more}
-use Rattle.guest_run.specs.Moves.{RunsFrom, states_of}
-use Rattle.guest_run.proofs.Progress.{states-both, states-all, events-both}
+use Rattle.plain_run.specs.Runs.{RunsFrom, states_of}
+use Rattle.plain_run.proofs.Whole.{states-both, states-all, events-both}
 use Rattle.plain_run.specs.declared.block.OpenBlock.{OpenBlock}
 use Rattle.plain_run.specs.Places.{LiesAt}
 use Rattle.plain_run.specs.Steps.{Moves, Finishes}

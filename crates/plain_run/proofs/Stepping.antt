@@ -31,9 +31,9 @@ use Rattle.report.specs.Rows.{Rows}
 use Rattle.engine.specs.Seeing.{counting, with_events}
 use Rattle.engine.proofs.Counting.{counting-bound, listed-few}
 use Rattle.engine.proofs.Reach.{IsSame, same-step}
-use Rattle.guest_run.specs.Answer.{Answers, GoesOn}
-use Rattle.guest_run.specs.Moves.{Counted}
-use Rattle.guest_run.proofs.Stepping.{counted-by}
+use Rattle.plain_run.specs.Answer.{Answers, GoesOn}
+use Rattle.plain_run.specs.Runs.{Counted}
+use Rattle.plain_run.proofs.Rows.{counted-by}
 use Rattle.plain_run.specs.declared.block.OpenBlock.{OpenBlock}
 use Rattle.plain_run.specs.Places.{LiesAt}
 use Rattle.plain_run.specs.Steps.{Moves, Finishes, OneWord}

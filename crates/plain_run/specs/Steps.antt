@@ -8,7 +8,7 @@ use Rattle.plain_machine.specs.Machine.{State, Setting}
 use Rattle.plain_machine.specs.Run.{run}
 use Rattle.plain_machine.specs.Cut.{marked_in, with_marks, over}
 use Rattle.plain_machine.specs.Own.{own_answers}
-use Rattle.guest_run.specs.Moves.{Counted, states_of}
+use Rattle.plain_run.specs.Runs.{Counted, states_of}
 use Rattle.plain_run.specs.declared.block.OpenBlock.{OpenBlock}
 use Rattle.plain_run.specs.Places.{LiesAt}
 

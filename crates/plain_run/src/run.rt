@@ -2,21 +2,23 @@
 ghost use Rattle.std.specs.Prelude.{◌≡◌, ◌<◌, [], ◌∷◌, length, IfOk};
 ghost use Rattle.std.specs.FinMap as fin;
 ghost use Rattle.plain_machine.specs.Plain.{IsPlainRun};
-ghost use Rattle.guest_run.specs.Plain.{one_module, guest_of};
-ghost use Rattle.guest_run.specs.Moves.{RunsFrom};
-ghost use Rattle.guest_run.specs.Ready.{IsReady, state_of};
+ghost use Rattle.plain_run.specs.Plain.{one_module, guest_of};
+ghost use Rattle.plain_run.specs.Runs.{RunsFrom};
+ghost use Rattle.plain_run.specs.Ready.{IsReady, state_of};
 
 use crate::block::OpenBlock;
+use crate::guest::{Module, Ran, Setup};
+use crate::process::{Process, start};
 use crate::step::step;
 use cc_base::Blob;
 use elf_map::Elf;
-use guest_run::{Module, Process, Ran, Setup, start};
 use plain_machine::End;
 use report::Report;
 use std::alloc::{AllocError, Global};
 
-/// Runs a guest that is alone, whose one module is one of these files, one instruction at a time. What is told of it is
-/// what is told of its run by blocks.
+/// Runs a guest that is alone, whose one module is one of these files, one instruction at a time. A call that makes the
+/// module be another file holds from the next time that it is mapped. What is told of it is what is told of its run by
+/// blocks.
 pub fn interpret(
     alloc: Global,
     elfs: &[Elf],

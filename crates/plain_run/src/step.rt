@@ -1,17 +1,19 @@
 // One instruction of a guest.
 ghost use Rattle.std.specs.Prelude.{◌≡◌, ◌<◌, ◌-◌, ◌∷◌, [], None, Option, IfOk};
 ghost use Rattle.plain_machine.specs.Region.{Area};
-ghost use Rattle.guest_run.specs.Plain.{one_module};
-ghost use Rattle.guest_run.specs.Ready.{IsReady, state_of};
+ghost use Rattle.plain_run.specs.Plain.{one_module};
+ghost use Rattle.plain_run.specs.Ready.{IsReady, state_of};
 ghost use Rattle.plain_run.specs.Places.{LiesAt};
 ghost use Rattle.plain_run.specs.Steps.{OneWord};
 
 use crate::block::{OpenBlock, closes, room_after};
+use crate::calls::answer;
 use crate::events::count;
 use crate::find::find;
+use crate::guest::Setup;
+use crate::process::Process;
 use cc_base::Span;
 use elf_map::Elf;
-use guest_run::{Process, Setup, answer};
 use plain_machine::{Done, End, Kind};
 use rv_decode::decode;
 use rv_exec::exec;

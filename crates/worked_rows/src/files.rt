@@ -3,12 +3,12 @@ ghost use Rattle.std.specs.Prelude.{◌<◌, ◌^◌, length};
 
 use cc_base::Blob;
 use elf_map::Elf;
-use guest_run::{Module, Setup};
-use host::host;
+use guest_loop::{Counts, Ran};
+use host::{GuestEnd, host};
 use host_text::text_of;
 use manifest::{GuestRow, Manifest};
 use outside::{MemFiles, MemSink};
-use plain_run::interpret;
+use plain_run::{Module, Setup, interpret};
 use std::alloc::{AllocError, Global};
 use std::process::Abort;
 use std::test::Fail;
@@ -76,13 +76,20 @@ fn setup(guest: &GuestRow, input: Blob) -> Setup {
         tool: guest.tool,
         max: guest.max,
         fuel: guest.fuel,
-        pool: guest.pool,
         stack: guest.stack,
         input,
     }
 }
 
-// The text of the run, as the interpreter gives it.
+// No counts, since the interpreter keeps no blocks.
+const NONE: Counts = Counts {
+    blocks: 0,
+    reused: 0,
+    built: 0,
+    linked: 0,
+};
+
+// The text of the run without counts, as the interpreter gives it.
 fn interpreted(alloc: Global, manifest: &[u8], file: &[u8], input: &[u8]) -> Result<Vec<u8>, Fail> {
     let Ok(manifest) = Manifest::read(alloc, manifest) else {
         return Err(Fail::from("the manifest is refused"));
@@ -99,8 +106,51 @@ fn interpreted(alloc: Global, manifest: &[u8], file: &[u8], input: &[u8]) -> Res
         base: module.base,
         file: module.file,
     };
-    let ran = interpret(alloc, &elfs, placed, &setup(guest, Blob::of(alloc, input)?))?;
-    Ok(text_of(alloc, &guest.name, &ran)?)
+    let plain = interpret(alloc, &elfs, placed, &setup(guest, Blob::of(alloc, input)?))?;
+    let ran = Ran {
+        end: plain.end,
+        maps: plain.maps,
+        output: plain.output,
+        report: plain.report,
+        counts: NONE,
+    };
+    Ok(text_of(alloc, &guest.name, &ran, false)?)
+}
+
+// What a run printed, its status, and the end of its guest.
+#[derive(Drop)]
+struct Printed {
+    text: Vec<u8>,
+    status: u8,
+    guest: GuestEnd,
+}
+
+// What the host prints of this file under these keys, with this content of the file `in`, with its counts or without.
+fn hosted(
+    alloc: Global,
+    manifest: &[u8],
+    file: &[u8],
+    input: &[u8],
+    with_counts: bool,
+) -> Result<Printed, Fail> {
+    let mut files = MemFiles::new(alloc);
+    files.put("m.toml", manifest)?;
+    files.put("p.elf", file)?;
+    files.put("in", input)?;
+    let mut out = MemSink::new(alloc, 1000)?;
+    let mut words = words(alloc, &["run", "m.toml"])?;
+    if with_counts {
+        words.push(String::from_str(alloc, "--counts")?)?;
+    }
+    let ended = host(alloc, &words, &mut files, &mut out);
+    let Some(guest) = ended.guests.into_iter().next() else {
+        return Err(Fail::from("nothing was run"));
+    };
+    Ok(Printed {
+        text: Vec::from_slice(alloc, out.bytes())?,
+        status: ended.status,
+        guest,
+    })
 }
 
 /// The run of this file under these keys, with this content of the file `in`, prints this text and gives this status, and
@@ -115,15 +165,9 @@ pub fn prints_with(
     text: &[u8],
 ) -> Result<(), Fail> {
     let manifest = manifest(alloc, keys)?;
-    let mut files = MemFiles::new(alloc);
-    files.put("m.toml", manifest.as_bytes())?;
-    files.put("p.elf", file)?;
-    files.put("in", input)?;
-    let mut out = MemSink::new(alloc, 1000)?;
-    let words = words(alloc, &["run", "m.toml"])?;
-    let ended = host(alloc, &words, &mut files, &mut out);
-    assert_eq!(rt; out.bytes(), text);
-    assert_eq!(rt; ended.status, status);
+    let printed = hosted(alloc, manifest.as_bytes(), file, input, false)?;
+    assert_eq!(rt; printed.text.as_slice(), text);
+    assert_eq!(rt; printed.status, status);
     let plain = interpreted(alloc, manifest.as_bytes(), file, input)?;
     assert_eq!(rt; plain.as_slice(), text);
     Ok(())
@@ -141,4 +185,54 @@ pub fn prints(
 ) -> Result<(), Fail> {
     let file = elf_of_words(alloc, flags, words)?;
     prints_with(rt, alloc, keys, &file, b"", status, text)
+}
+
+/// The run of this file under these keys and with no input prints what the interpreter gives, whatever it is.
+pub fn agrees(rt: &impl Abort, alloc: Global, keys: &str, file: &[u8]) -> Result<(), Fail> {
+    let manifest = manifest(alloc, keys)?;
+    let printed = hosted(alloc, manifest.as_bytes(), file, b"", false)?;
+    let plain = interpreted(alloc, manifest.as_bytes(), file, b"")?;
+    assert_eq!(rt; printed.text, plain);
+    Ok(())
+}
+
+/// The run of this file under these keys and with no input counts so many blocks begun, reused, built and linked, and
+/// prints them with `--counts` behind what the interpreter gives.
+pub fn counts_with(
+    rt: &impl Abort,
+    alloc: Global,
+    keys: &str,
+    file: &[u8],
+    counts: [u64; 4],
+) -> Result<(), Fail> {
+    let [blocks, reused, built, linked] = counts;
+    let manifest = manifest(alloc, keys)?;
+    let printed = hosted(alloc, manifest.as_bytes(), file, b"", true)?;
+    let told = Counts {
+        blocks,
+        reused,
+        built,
+        linked,
+    };
+    assert_eq!(rt; printed.guest.counts, told);
+    let mut text = interpreted(alloc, manifest.as_bytes(), file, b"")?;
+    let line = format!(in alloc;
+        "counts blocks {blocks} reused {reused} built {built} linked {linked}\n"
+    )?;
+    text.extend_from_slice(line.as_bytes())?;
+    assert_eq!(rt; printed.text, text);
+    Ok(())
+}
+
+/// The same for a segment of these words, with these flags.
+pub fn counts(
+    rt: &impl Abort,
+    alloc: Global,
+    keys: &str,
+    flags: u8,
+    words: &[u32],
+    counts: [u64; 4],
+) -> Result<(), Fail> {
+    let file = elf_of_words(alloc, flags, words)?;
+    counts_with(rt, alloc, keys, &file, counts)
 }

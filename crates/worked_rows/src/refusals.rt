@@ -53,20 +53,15 @@ fn refuses_file(
 }
 
 #[test]
-fn words_that_name_no_file_are_refused(rt: HostRuntime) -> Result<(), Fail> {
+fn words_of_no_run_are_refused(rt: HostRuntime) -> Result<(), Fail> {
     let alloc = rt.alloc();
     let line = b"error words\n";
-    refuses(&rt, alloc, b"", b"", &["run"], 2, line)?;
     refuses(&rt, alloc, b"", b"", &[], 2, line)?;
-    refuses(
-        &rt,
-        alloc,
-        b"",
-        b"",
-        &["run", "m.toml", "--counts"],
-        2,
-        line,
-    )
+    refuses(&rt, alloc, b"", b"", &["run"], 2, line)?;
+    let twice = ["run", "m.toml", "--counts", "--counts"];
+    refuses(&rt, alloc, b"", b"", &twice, 2, line)?;
+    let other = ["run", "m.toml", "--journal"];
+    refuses(&rt, alloc, b"", b"", &other, 2, line)
 }
 
 #[test]

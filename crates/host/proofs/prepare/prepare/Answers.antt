@@ -7,19 +7,20 @@ use Rattle.host_text.specs.declared.cause.Cause.TheVariants as causes
 use Rattle.host.specs.Answer.{IsRunOf}
 use Rattle.host.specs.Outcome.{Source, listed, programs_of}
 use Rattle.host.specs.Reading.{AreRead, Fails}
+use Rattle.host.specs.Words.{meant}
 use Rattle.host.specs.Seen.{source_of}
 use Rattle.host.proofs.Sources.{IsPart, first_part, middle_part, last_part, kept_on, less_on, agrees_too, read_too, fails_too, read_count}
 use Rattle.host.proofs.Refusing.{HasText, HasOne, refuses_words, refuses_text, refuses_listing, refuses_alone, refuses_files, refuses_input, refuses_elf, runs_plan}
 use Rattle.host.proofs.prepare.prepare.Goals as goal
 
 pub returns-in_default-clause-refused : goal.returns-in_default-clause-refused
-returns-in_default-clause-refused g c = λ other. refuses_words c.args.words.now _ (c.file_of.ensures.none c.in_default.is)
+returns-in_default-clause-refused g c = λ other. refuses_words c.args.words.now _ (c.order_of.ensures.none c.in_default.is)
 
 pub returns-in_err-text-clause-refused : goal.returns-in_err-text-clause-refused
 returns-in_err-text-clause-refused g c =
     let h = c.in_err-text.ensures in
     let p = err_from_is_err_and c.from_residual.result c.from_residual.ensures.1 in
-    rw (p.1, p.2) (λ other. refuses_text c.args.words.now _ c.in-Some.name.now c.in_err-text.field-0.0 c.in-Some.ensures.some h.agrees)
+    rw (p.1, p.2) (λ other. refuses_text c.args.words.now _ (meant c.in-Some.order) c.in_err-text.field-0.0 c.in-Some.ensures.some h.agrees)
 
 pub returns-in_err-manifest-clause-refused : goal.returns-in_err-manifest-clause-refused
 returns-in_err-manifest-clause-refused g c =
@@ -27,7 +28,7 @@ returns-in_err-manifest-clause-refused g c =
     let p = err_from_is_err_and c.from_residual-in_err-manifest.result c.from_residual-in_err-manifest.ensures.1 in
     let text : List ℕ = c.in_ok-text.text in
     let has : HasText c.args.words.now (source_of g.F.Files.content g.F.Files.faults c.args.files.now c.read_file.new.files) text =
-    record { name = c.in-Some.name.now; some = c.in-Some.ensures.some; agrees = c.in_ok-text.ensures.agrees } in
+    record { order = meant c.in-Some.order; some = c.in-Some.ensures.some; agrees = c.in_ok-text.ensures.agrees } in
     rw (p.1, p.2) (λ other. refuses_listing c.args.words.now _ text c.in_err-manifest.field-0.0 has
     (subst (λ t. listed (manifest_of t) ≡ Err c.in_err-manifest.field-0.0) c.items.ensures (h other)))
 
@@ -35,7 +36,7 @@ pub returns-in_default-alone-clause-refused : goal.returns-in_default-alone-clau
 returns-in_default-alone-clause-refused g c = λ other.
     let text : List ℕ = c.in_ok-text.text in
     let has : HasText c.args.words.now (source_of g.F.Files.content g.F.Files.faults c.args.files.now c.read_file.new.files) text =
-    record { name = c.in-Some.name.now; some = c.in-Some.ensures.some; agrees = c.in_ok-text.ensures.agrees } in
+    record { order = meant c.in-Some.order; some = c.in-Some.ensures.some; agrees = c.in_ok-text.ensures.agrees } in
     refuses_alone c.args.words.now _ text c.in_ok-manifest.manifest causes.Unbuilt has
     (subst (λ t. listed (manifest_of t) ≡ Ok c.in_ok-manifest.manifest) c.items.ensures c.in_ok-manifest.ensures)
     (c.alone.ensures.none c.in_default-alone.is)
@@ -53,7 +54,7 @@ returns-in_err-contents-clause-refused g c =
     let listing : Listing = c.in_ok-manifest.manifest in
     let one : HasOne c.args.words.now whole listing (c.in-Some-alone.module.now, c.in-Some-alone.guest.now) = record {
       text = text;
-      has = record { name = c.in-Some.name.now; some = c.in-Some.ensures.some; agrees = agrees_too whole _ 1048576 c.in-Some.name.now (Ok text) before c.in_ok-text.ensures.agrees };
+      has = record { order = meant c.in-Some.order; some = c.in-Some.ensures.some; agrees = agrees_too whole _ 1048576 c.in-Some.order.file.now (Ok text) before c.in_ok-text.ensures.agrees };
       is = subst (λ t. listed (manifest_of t) ≡ Ok listing) c.items.ensures c.in_ok-manifest.ensures;
       alone = c.in-Some-alone.ensures.some;
     } in
@@ -75,7 +76,7 @@ returns-in_err-input-clause-refused g c =
     let listing : Listing = c.in_ok-manifest.manifest in
     let one : HasOne c.args.words.now whole listing (c.in-Some-alone.module.now, c.in-Some-alone.guest.now) = record {
       text = text;
-      has = record { name = c.in-Some.name.now; some = c.in-Some.ensures.some; agrees = agrees_too whole _ 1048576 c.in-Some.name.now (Ok text) before c.in_ok-text.ensures.agrees };
+      has = record { order = meant c.in-Some.order; some = c.in-Some.ensures.some; agrees = agrees_too whole _ 1048576 c.in-Some.order.file.now (Ok text) before c.in_ok-text.ensures.agrees };
       is = subst (λ t. listed (manifest_of t) ≡ Ok listing) c.items.ensures c.in_ok-manifest.ensures;
       alone = c.in-Some-alone.ensures.some;
     } in
@@ -110,7 +111,7 @@ returns-in_err-elfs-clause-refused g c =
     let listing : Listing = c.in_ok-manifest.manifest in
     let one : HasOne c.args.words.now whole listing (c.in-Some-alone.module.now, c.in-Some-alone.guest.now) = record {
       text = text;
-      has = record { name = c.in-Some.name.now; some = c.in-Some.ensures.some; agrees = agrees_too whole _ 1048576 c.in-Some.name.now (Ok text) before c.in_ok-text.ensures.agrees };
+      has = record { order = meant c.in-Some.order; some = c.in-Some.ensures.some; agrees = agrees_too whole _ 1048576 c.in-Some.order.file.now (Ok text) before c.in_ok-text.ensures.agrees };
       is = subst (λ t. listed (manifest_of t) ≡ Ok listing) c.items.ensures c.in_ok-manifest.ensures;
       alone = c.in-Some-alone.ensures.some;
     } in
@@ -140,7 +141,7 @@ returns-clause-done g c =
     let listing : Listing = c.in_ok-manifest.manifest in
     let one : HasOne c.args.words.now whole listing (c.in-Some-alone.module.now, c.in-Some-alone.guest.now) = record {
       text = text;
-      has = record { name = c.in-Some.name.now; some = c.in-Some.ensures.some; agrees = agrees_too whole _ 1048576 c.in-Some.name.now (Ok text) before c.in_ok-text.ensures.agrees };
+      has = record { order = meant c.in-Some.order; some = c.in-Some.ensures.some; agrees = agrees_too whole _ 1048576 c.in-Some.order.file.now (Ok text) before c.in_ok-text.ensures.agrees };
       is = subst (λ t. listed (manifest_of t) ≡ Ok listing) c.items.ensures c.in_ok-manifest.ensures;
       alone = c.in-Some-alone.ensures.some;
     } in
@@ -160,6 +161,6 @@ returns-clause-done g c =
       runs_plan c.args.words.now whole listing _ c.in_ok-contents.contents.items c.in_ok-input.input.items c.in_ok-elfs.elfs.items end c.in_ok-run.field-0.text.items one all given
           (subst (λ names. programs_of names c.in_ok-contents.contents.items ≡ Ok c.in_ok-elfs.elfs.items) c.files-2.ensures.files
           (subst (λ files. programs_of c.files-2.result.now files ≡ Ok c.in_ok-elfs.elfs.items) c.deref.ensures.value c.in_ok-elfs.ensures.gives))
-          (subst (λ ps. IsRunOf (record { one = c.in-Some-alone.module.now; guest = c.in-Some-alone.guest.now; programs = ps; inputs = c.in_ok-input.input.items }) end c.in_ok-run.field-0.text.items)
+          (subst (λ ps. IsRunOf (record { order = meant c.in-Some.order; one = c.in-Some-alone.module.now; guest = c.in-Some-alone.guest.now; programs = ps; inputs = c.in_ok-input.input.items }) end c.in_ok-run.field-0.text.items)
           c.deref-2.ensures.value run),
     )

@@ -1,6 +1,5 @@
 use Rattle.std.proofs.Common.{refl, sym}
-use Rattle.guest_run.proofs.Fetching.{unfetched-none}
-use Rattle.plain_run.proofs.Finding.{region-shown}
+use Rattle.plain_run.proofs.Finding.{region-shown, unfetched-none}
 use Rattle.plain_run.proofs.find.find.Goals as goal
 
 pub returns-in_err-code-clause-none : goal.returns-in_err-code-clause-none

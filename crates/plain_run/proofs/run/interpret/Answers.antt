@@ -6,10 +6,10 @@ use Rattle.std.specs.FinMap as fin
 use Rattle.plain_machine.specs.declared.ends.End.TheVariants as ends
 use Rattle.plain_machine.specs.Program.{Program}
 use Rattle.plain_machine.specs.Plain.{IsPlainRun}
-use Rattle.guest_run.specs.Plain.{one_module, guest_of}
-use Rattle.guest_run.specs.Ready.{state_of}
-use Rattle.guest_run.proofs.Progress.{run-whole, run-unplaced, runs-as}
-use Rattle.guest_run.proofs.Entering.{nothing}
+use Rattle.plain_run.specs.Plain.{one_module, guest_of}
+use Rattle.plain_run.specs.Ready.{state_of}
+use Rattle.plain_run.proofs.Whole.{run-whole, run-unplaced, runs-as}
+use Rattle.plain_run.proofs.Entering.{nothing}
 use Rattle.plain_run.proofs.run.interpret.Goals as goal
 
 pub returns-in-None-clause-plain : goal.returns-in-None-clause-plain

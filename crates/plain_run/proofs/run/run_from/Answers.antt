@@ -1,8 +1,8 @@
 use Rattle.std.proofs.Common.{◌∷◌, [], arith}
 use Rattle.plain_machine.specs.Machine.{State}
-use Rattle.guest_run.specs.Plain.{one_module}
-use Rattle.guest_run.specs.Ready.{state_of}
-use Rattle.guest_run.proofs.Progress.{no-rows}
+use Rattle.plain_run.specs.Plain.{one_module}
+use Rattle.plain_run.specs.Ready.{state_of}
+use Rattle.plain_run.proofs.Whole.{no-rows}
 use Rattle.plain_run.specs.Steps.{Moves, Finishes}
 use Rattle.plain_run.proofs.Progress.{progress-start, progress-moves, progress-finishes, progress-spent}
 use Rattle.plain_run.proofs.run.run_from.Goals as goal

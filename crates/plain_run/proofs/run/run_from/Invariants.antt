@@ -1,6 +1,6 @@
 use Rattle.std.proofs.Common.{◌∷◌, []}
-use Rattle.guest_run.specs.Plain.{one_module}
-use Rattle.guest_run.specs.Ready.{IsReady, state_of}
+use Rattle.plain_run.specs.Plain.{one_module}
+use Rattle.plain_run.specs.Ready.{IsReady, state_of}
 use Rattle.plain_run.proofs.Progress.{Progress}
 use Rattle.plain_run.proofs.run.run_from.Given as goal
 

@@ -3,9 +3,9 @@ use Rattle.std.proofs.lemmas.Result.{IfOk-weaker}
 use Rattle.plain_machine.specs.declared.cpu.Done.TheVariants as done
 use Rattle.plain_machine.specs.Machine.{State}
 use Rattle.engine.specs.Standing.{state}
-use Rattle.guest_run.specs.Plain.{one_module}
-use Rattle.guest_run.specs.Ready.{state_of}
-use Rattle.guest_run.proofs.Stepping.{both-ok}
+use Rattle.plain_run.specs.Plain.{one_module}
+use Rattle.plain_run.specs.Ready.{state_of}
+use Rattle.plain_run.proofs.Rows.{both-ok}
 use Rattle.plain_run.specs.declared.block.OpenBlock.{OpenBlock}
 use Rattle.plain_run.proofs.Stepping.{Did, did-so, finishes-unfetched, moves-next, moves-taken, moves-touched, finishes-fault, steps-call, small-after}
 use Rattle.plain_run.proofs.step.step.Goals as goal

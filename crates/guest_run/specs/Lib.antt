@@ -1,5 +1,0 @@
-pub mod Plain
-pub mod Known
-pub mod Answer
-pub mod Moves
-pub mod Ready
