@@ -70,12 +70,11 @@ pub fn see(
 fn event_of(kind: ProbeKind, cpu: &Cpu, word: u32) -> Option<Event>
     ensures { result ≡ seen_by kind cpu.now (instruction cpu.now.isa word) }
 {
-    let ins = decode(word, cpu.isa);
     match kind {
         ProbeKind::Block => Some(Event::Block { at: cpu.pc }),
-        ProbeKind::Call => event_of_call(ins, cpu),
-        ProbeKind::Load => event_of_access(ins, cpu),
-        ProbeKind::Store => event_of_access(ins, cpu),
+        ProbeKind::Call => event_of_call(decode(word, cpu.isa), cpu),
+        ProbeKind::Load => event_of_access(decode(word, cpu.isa), cpu),
+        ProbeKind::Store => event_of_access(decode(word, cpu.isa), cpu),
     }
 }
 

@@ -1,6 +1,6 @@
 -- The begin of a block.
-use Rattle.std.proofs.Common.{◌≡◌, ℕ, ◌+◌, ◌-◌, ◌*◌, ◌<◌, ◌≤◌, ◌%◌, ◌⊎◌, Bool, true, false, List, [], ◌∷◌, ◌++◌, length, Option, Some, None, Result, Ok, Err, refl, sym, ◌∙◌, ap, subst, arith, inl, inr}
-use Rattle.std.specs.Prelude.{find, is_some}
+use Rattle.std.proofs.Common.{◌≡◌, ℕ, ◌+◌, ◌-◌, ◌*◌, ◌<◌, ◌≤◌, ◌%◌, true, false, [], ◌∷◌, length, Option, Some, None, Result, Ok, Err, refl, sym, ◌∙◌, ap, subst, arith, inl, inr}
+use Rattle.std.specs.Prelude.{find, is_some, slice_index}
 use Rattle.std.specs.Cmp.{nat_cmp_total, eq_by_cmp_equiv}
 use Rattle.std.specs.Ordering.{nat_cmp, eq_by_cmp}
 use Rattle.std.specs.FinMap as fin
@@ -15,7 +15,6 @@ use Rattle.plain_machine.specs.declared.cpu.Cpu.{Cpu}
 use Rattle.plain_machine.specs.declared.cpu.Done.TheVariants as done
 use Rattle.plain_machine.specs.declared.io.Asked.TheVariants as asked
 use Rattle.plain_machine.specs.Memory.{Memory, IsMemory, code_at, code_of, fetched, has_code}
-use Rattle.plain_machine.specs.Io.{Io}
 use Rattle.plain_machine.specs.Calls.{Reply, called}
 use Rattle.plain_machine.specs.Step.{Outcome, step}
 use Rattle.plain_machine.specs.Machine.{State, Unfetched, action, action_at, is_done, replied, stepped}
@@ -26,14 +25,16 @@ use Rattle.fragment.proofs.Values.{has_of}
 use Rattle.guest_mem.specs.Results.{Shows}
 use Rattle.guest_mem.proofs.MemoryLemmas.{found_ends}
 use Rattle.engine.specs.Standing.{state}
+use Rattle.engine.proofs.Reach.{fetches, reaches-start}
 use Rattle.block_build.specs.Making.{Makes, Taken}
 use Rattle.block_book.specs.Clauses.{IsShort}
-use Rattle.block_ledger.specs.Ledger.{Ledger, begun, counted, found, is_live, is_private, is_shared, view}
+use Rattle.block_ledger.specs.Ledger.{Ledger, begun, counted, found, is_live, is_private, is_shared, view, wants_room}
 use Rattle.block_ledger.specs.Traced.{built_in}
 use Rattle.block_ledger.proofs.Gets.{got-insert}
 use Rattle.guest_proc.proofs.Fetching.{unfetched-none, built-none}
 use Rattle.guest_proc.specs.Fresh.{AreFresh, block_in}
 use Rattle.guest_proc.specs.Begun.{AreMade, HasBegun}
+use Rattle.guest_proc.specs.Process.{stop_at}
 use Rattle.guest_proc.proofs.Put.{found-at}
 use Rattle.guest_proc.proofs.Kept.{built-live, built-new, is_none, not_either, view-begun, view_linked}
 use Rattle.guest_proc.proofs.Blocks.{no_io}
@@ -120,6 +121,32 @@ begun-new tool max isa m a led new f some fresh gone after =
 
 pub absent-new : (tool : Tool) (max : ℕ) (isa : Isa) (m : Memory) (a : ℕ) (led : Ledger) (f : Parts) → 0 < max → block_in tool max isa m a ≡ Some f → is_live led a ≡ false → is_live led f.address ≡ false
 absent-new tool max isa m a led f some fresh gone = subst (λ x. is_live led x ≡ false) (sym (found-at tool max isa m a f some fresh).at) gone
+
+-- ---- no stop comes before it
+
+-- a block that stands ready can be fetched
+live_word : (tool : Tool) (max : ℕ) (cpu : Cpu) (m : Memory) (led : Ledger) → 0 < max → IsMemory m → AreFresh tool max cpu.isa m led → is_live led cpu.pc ≡ true → (word : ℕ) × (fetched m cpu.pc ≡ Ok word)
+live_word tool max cpu m led some good fresh live =
+    let f = live_block (view led cpu.pc) live in
+    let there = found-at tool max cpu.isa m cpu.pc f.0 some (fresh cpu.pc f.0 f.1) in
+    let here : find (has_code f.0.address 1) m ≡ Some there.region = subst (λ x. find (has_code x 1) m ≡ Some there.region) (sym there.at) there.here in
+    let reach = reaches-start cpu.isa max there.region f.0 0 (state cpu m no_io) (sym there.at) refl good here in
+    let word : ℕ = slice_index f.0.words 0 in
+    let got = fetches cpu.isa tool max there.region f.0 0 (state cpu m no_io) 0 0 word (state cpu m no_io) there.built there.built.not_empty refl reach in
+    (word, got.fetch)
+
+pub stop-live : (pool : ℕ) (tool : Tool) (max : ℕ) (cpu : Cpu) (m : Memory) (led : Ledger) → 0 < max → IsMemory m → AreFresh tool max cpu.isa m led → is_live led cpu.pc ≡ true → stop_at pool led cpu.pc (fetched m cpu.pc) ≡ None
+stop-live pool tool max cpu m led some good fresh live =
+    let word = live_word tool max cpu m led some good fresh live in
+    let room : wants_room pool led cpu.pc ≡ false = rw live refl in
+    rw word.1 (rw room refl)
+
+no_err : (pool : ℕ) (led : Ledger) (pc : ℕ) (r : Result ℕ Access) → stop_at pool led pc r ≡ None → (word : ℕ) × (r ≡ Ok word)
+no_err pool led pc (Ok word) e = (word, refl)
+no_err pool led pc (Err a) e = absurd (cc)
+
+pub word-there : (pool : ℕ) (led : Ledger) (m : Memory) (pc : ℕ) → None ≡ stop_at pool led pc (fetched m pc) → (word : ℕ) × (fetched m pc ≡ Ok word)
+word-there pool led m pc e = no_err pool led pc (fetched m pc) (sym e)
 
 -- ---- what was built
 

@@ -1,5 +1,5 @@
 -- Blocks one after the other.
-use Rattle.std.proofs.Common.{◌≡◌, ◌+◌, ◌<◌, ◌≤◌, ◌⊎◌, arith, ℕ, Bool, true, false, List, [], ◌∷◌, ◌++◌, length, Option, Some, None, Result, Ok, Err, refl, sym, ◌∙◌, ap, subst, inl, inr, append_assoc}
+use Rattle.std.proofs.Common.{◌≡◌, ◌<◌, ◌⊎◌, arith, ℕ, Bool, List, [], ◌∷◌, ◌++◌, Option, Some, None, refl, sym, ◌∙◌, ap, subst, inl, inr, append_assoc}
 use Rattle.std.proofs.lemmas.List.{append-nil, length-append}
 use Rattle.std.proofs.lemmas.List.Concat.{flat_map-append}
 use Rattle.plain_machine.specs.Machine.{State, Setting}
@@ -13,7 +13,7 @@ use Rattle.guest_proc.specs.declared.stop.Stop.{Stop}
 use Rattle.guest_proc.specs.declared.stop.Stop.TheVariants as stop
 use Rattle.guest_proc.specs.Begun.{AreMade}
 use Rattle.guest_proc.specs.Kept.{Keeps}
-use Rattle.guest_proc.specs.Process.{CameToWant, Comes, GoesOn, Process, RanOn, RanOne, StopsIn, WantsMemory, Went, nothing, onward, stop_of, trace}
+use Rattle.guest_proc.specs.Process.{Advances, CameToWant, GoesOn, Process, RanOn, RanOne, StopsIn, WantsMemory, Went, nothing, stop_of, trace}
 
 traced_append : (w : Setting) (scheme : Scheme) (xs ys : List (State × Bool)) (t : Trace) → traced w scheme (xs ++ ys) t ≡ traced w scheme ys (traced w scheme xs t)
 traced_append w scheme [] ys t = refl
@@ -43,9 +43,15 @@ stops-both scheme old mid new (stop.Unmap k) a b = went-both scheme old mid new 
 stops-both scheme old mid new (stop.Replace k f) a b = went-both scheme old mid new _ _ a b
 stops-both scheme old mid new stop.PoolFull a b = absurd b
 
-comes-both : (scheme : Scheme) (old mid new : Process) (s : Stop) → GoesOn scheme old mid → Comes scheme mid new s → Comes scheme old new s
-comes-both scheme old mid new s a (inl on) = inl (went-both scheme old mid new nothing _ a on.0, on.1)
-comes-both scheme old mid new s a (inr within) = inr (stops-both scheme old mid new s a within)
+-- the stop that is told behind one block
+pub one-then : (scheme : Scheme) (old new : Process) (s : Option Stop) → Advances scheme old new None → s ≡ stop_of scheme.pool new → RanOne scheme old new s
+one-then scheme old new None a is = (a.0, a.1, sym is)
+one-then scheme old new (Some s) a is = inr (a.0, inl (a.1, sym is))
+
+-- and before it or in it
+pub one-stops : (scheme : Scheme) (old new : Process) (s : Stop) → Advances scheme old new (Some s) → RanOne scheme old new (Some s)
+one-stops scheme old new s (inl before) = inl before
+one-stops scheme old new s (inr within) = inr (within.0, inr within.1)
 
 -- ---- what a loop of blocks keeps
 
@@ -61,11 +67,11 @@ less_fuel old mid new (inl same) less = subst (λ (p : Process). new.fuel < p.fu
 less_fuel old mid new (inr before) less = omega (arith, before, less)
 
 -- one more block
-pub one-more-on : (scheme : Scheme) (old mid new : Process) → WentOn scheme old mid → RanOne scheme mid new None → WentOn scheme old new
+pub one-more-on : (scheme : Scheme) (old mid new : Process) → WentOn scheme old mid → Advances scheme mid new None → WentOn scheme old new
 one-more-on scheme old mid new a b = record { goes = went-both scheme old mid new nothing _ a.goes b.1; spends = inr (less_fuel old mid new a.spends b.0.less) }
 
 -- and the stop
-pub stop-on : (scheme : Scheme) (old mid new : Process) (s : Stop) → WentOn scheme old mid → RanOne scheme mid new (Some s) → RanOn scheme old new s
+pub stop-on : (scheme : Scheme) (old mid new : Process) (s : Stop) → WentOn scheme old mid → Advances scheme mid new (Some s) → RanOn scheme old new s
 stop-on scheme old mid new s a (inl before) =
     let there = subst (λ p. WentOn scheme old p) (sym before.0) a in
     record {
@@ -75,7 +81,7 @@ stop-on scheme old mid new s a (inl before) =
         | inr less ↦ inr less
       ];
     }
-stop-on scheme old mid new s a (inr behind) = record { comes = comes-both scheme old mid new s a.goes behind.1; spends = inr (less_fuel old mid new a.spends behind.0.less) }
+stop-on scheme old mid new s a (inr within) = record { comes = inr (stops-both scheme old mid new s a.goes within.1); spends = inr (less_fuel old mid new a.spends within.0.less) }
 
 pub came-to-want : (scheme : Scheme) (old mid : Process) → WentOn scheme old mid → WantsMemory scheme mid → CameToWant scheme old
 came-to-want scheme old mid a wants = record { reached = mid; went = a.goes; wants = wants }

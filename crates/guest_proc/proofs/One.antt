@@ -1,6 +1,6 @@
 -- One block of a process.
-use Rattle.std.proofs.Common.{◌≡◌, ℕ, ◌+◌, ◌%◌, ◌^◌, ◌<◌, ◌≤◌, ◌==◌, ◌⊎◌, Bool, true, false, if◌then◌else◌, Option, Some, None, Result, Ok, Err, refl, sym, ◌∙◌, ap, subst, arith, inl, inr}
-use Rattle.std.specs.Prelude.{is_some, IfOk, OnErr, OnOk}
+use Rattle.std.proofs.Common.{◌≡◌, ℕ, ◌+◌, ◌%◌, ◌^◌, ◌<◌, ◌==◌, Bool, true, false, if◌then◌else◌, Option, Some, None, Result, Ok, Err, refl, sym, ◌∙◌, ap, subst, arith, inl, inr}
+use Rattle.std.specs.Prelude.{◌≢◌, is_some, IfNone, IfSome, IfOk, OnErr, OnOk}
 use Rattle.std.proofs.lemmas.Bool.{cases_Bool}
 use Rattle.std.proofs.lemmas.Bool.Decides.{nat_tests}
 use Rattle.std.proofs.lemmas.Option.{same_Some}
@@ -11,6 +11,8 @@ use Rattle.probe_tools.specs.declared.tool.Tool.{Tool}
 use Rattle.probe_tools.specs.Rows.{count_at}
 use Rattle.plain_machine.specs.declared.access.Access.{Access}
 use Rattle.plain_machine.specs.declared.cpu.Cpu.{Cpu}
+use Rattle.plain_machine.specs.declared.ends.End.TheVariants as ends
+use Rattle.plain_machine.specs.declared.ends.Kind.TheVariants as kinds
 use Rattle.plain_machine.specs.Memory.{Memory, fetched}
 use Rattle.plain_machine.specs.Io.{Io}
 use Rattle.fragment.specs.Parts.{Parts}
@@ -19,7 +21,6 @@ use Rattle.engine.specs.Standing.{SameRegions}
 use Rattle.block_build.specs.Making.{Taken}
 use Rattle.block_ledger.specs.Ledger.{Ledger, Segment, begun, view, is_live, wants_room, flushed, all_offered}
 use Rattle.block_ledger.specs.Traced.{Scheme, with_block}
-use Rattle.region_laws.specs.Heap.{HeapIsData}
 use Rattle.region_laws.proofs.HeapMoves.{heap-kept, stand-same}
 use Rattle.guest_proc.specs.declared.stop.Ran.{Ran}
 use Rattle.guest_proc.specs.declared.stop.Ran.TheVariants as ran
@@ -29,7 +30,7 @@ use Rattle.guest_proc.specs.Begun.{AreMade, HasBegun}
 use Rattle.guest_proc.specs.Called.{CallDone}
 use Rattle.guest_proc.specs.Fresh.{AreFresh, AreMapped, block_in}
 use Rattle.guest_proc.specs.Kept.{IsReady, Keeps, StopsWell, image_at}
-use Rattle.guest_proc.specs.Process.{Asks, CallEnds, IsOneBlock, LacksRow, Process, RanBlock, WantsMemory, process, stop_of, stop_with}
+use Rattle.guest_proc.specs.Process.{Advances, CallEnds, IsOneBlock, LacksRow, Process, RanBlock, WantsMemory, process, stop_at, stop_of, stop_with}
 use Rattle.guest_proc.proofs.Kept.{fresh-begun, mapped-segments, one-more, segments-begun}
 
 -- ---- the begin
@@ -73,6 +74,31 @@ no-stop pool p e = elim (cases_Bool (p.fuel == 0)) [
       let there : stop_with pool p (fetched p.state.memory p.state.cpu.pc) ≡ None = rw some at e in
       record { fuel = fuel_some p.fuel some; fetches = some_word pool p (fetched p.state.memory p.state.cpu.pc) there; room = with_word pool p (fetched p.state.memory p.state.cpu.pc) there }
 ]
+
+-- ---- a stop comes first, or none does
+
+pub stop-first : (pool : ℕ) (p : Process) (o : Option Stop) → p.fuel ≢ 0 → o ≡ stop_at pool p.ledger p.state.cpu.pc (fetched p.state.memory p.state.cpu.pc) → stop_of pool p ≡ o
+stop-first pool p o some is =
+    let fuel : (p.fuel == 0) ≡ false = grind (arith, nat_tests) in
+    rw fuel (sym is)
+
+-- it began, where none does
+pub begun-then : (tool told : Tool) (max : ℕ) (isa : Isa) (m : Memory) (a : ℕ) (old new : Ledger) (o : Option Stop) → tool ≡ told → o ≡ None → IfNone o (HasBegun tool max isa m a old new) → HasBegun told max isa m a old new
+begun-then tool told max isa m a old new None same is b = subst (λ t. HasBegun t max isa m a old new) same b
+begun-then tool told max isa m a old new (Some s) same is b = absurd (cc)
+
+-- nothing changed, where one does
+pub same-then : (old new : Ledger) (o : Option Stop) (s : Stop) → o ≡ Some s → IfSome o (λ x. new ≡ old) → new ≡ old
+same-then old new (Some x) s is same = same
+same-then old new None s is same = absurd (cc)
+
+room_well : (b : Bool) (s : Stop) (io : Io) → ◌≡◌ {A = Option Stop} (if b then Some stop.PoolFull else None) (Some s) → StopsWell (Some s) io
+room_well true s io is = subst (λ x. StopsWell (Some x) io) (same_Some stop.PoolFull s is) tt
+room_well false s io is = absurd (cc)
+
+pub stops-well : (pool : ℕ) (led : Ledger) (pc : ℕ) (r : Result ℕ Access) (s : Stop) (io : Io) → stop_at pool led pc r ≡ Some s → StopsWell (Some s) io
+stops-well pool led pc (Ok word) s io is = room_well (wants_room pool led pc) s io is
+stops-well pool led pc (Err e) s io is = subst (λ x. StopsWell (Some x) io) (same_Some (stop.Ended (ends.Fault kinds.Fetch pc)) s is) tt
 
 -- the begin is that of the ledger's definition
 pub begins-so : (scheme : Scheme) (p : Process) (tool : Tool) (max : ℕ) (isa : Isa) (m : Memory) (new : Ledger) → wants_room scheme.pool p.ledger p.state.cpu.pc ≡ false → (b : HasBegun tool max isa m p.state.cpu.pc p.ledger new) →
@@ -153,6 +179,10 @@ after-call scheme old cpu c m after io now fuel rows led last s some b done = re
   };
   asks = done.asks;
 }
+
+pub call-advances : (scheme : Scheme) (old new : Process) (s : Option Stop) → AfterCall scheme old new s → Advances scheme old new s
+call-advances scheme old new None b = (b.one, b.ends)
+call-advances scheme old new (Some s) b = inr (b.one, b.ends)
 
 -- ---- the blocks that were built
 

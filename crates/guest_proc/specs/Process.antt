@@ -36,9 +36,13 @@ process cpu m io fuel report led = record { state = state cpu m io; fuel = fuel;
 
 -- ---- where it stops before a block
 
+-- where there is fuel
+abbrev pub stop_at : ℕ → Ledger → ℕ → Result ℕ Access → Option Stop
+stop_at pool led pc (Err e) = Some (stop.Ended (ends.Fault kinds.Fetch pc))
+stop_at pool led pc (Ok word) = if wants_room pool led pc then Some stop.PoolFull else None
+
 abbrev pub stop_with : ℕ → Process → Result ℕ Access → Option Stop
-stop_with pool p (Err e) = Some (stop.Ended (ends.Fault kinds.Fetch p.state.cpu.pc))
-stop_with pool p (Ok word) = if wants_room pool p.ledger p.state.cpu.pc then Some stop.PoolFull else None
+stop_with pool p answer = stop_at pool p.ledger p.state.cpu.pc answer
 
 -- the stop that comes before the next block begins, if one does
 abbrev pub stop_of : ℕ → Process → Option Stop
@@ -106,6 +110,11 @@ CallEnds scheme old new (Some s) = StopsIn scheme old new s
 pub record IsOneBlock (old new : Process) : Type 0 where
   pub less : new.fuel < old.fuel
   pub one : new.ledger.counts.blocks ≡ old.ledger.counts.blocks + 1
+
+-- At most one block was run: a stop came before it or in it, or none did.
+abbrev pub Advances : Scheme → Process → Process → Option Stop → Type 0
+Advances scheme old new None = IsOneBlock old new × GoesOn scheme old new
+Advances scheme old new (Some s) = ((new ≡ old) × (stop_of scheme.pool old ≡ Some s)) ⊎ (IsOneBlock old new × StopsIn scheme old new s)
 
 -- a stop came in it, or directly behind it
 abbrev pub Comes : Scheme → Process → Process → Stop → Type 0

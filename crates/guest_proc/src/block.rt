@@ -1,8 +1,8 @@
 // One block of a process.
-ghost use Rattle.std.specs.Prelude.{◌≡◌, None, IfOk, OnOk, OnErr};
+ghost use Rattle.std.specs.Prelude.{◌≡◌, IfOk, OnOk, OnErr};
 ghost use Rattle.guest_proc.specs.Begun.{AreMade};
 ghost use Rattle.guest_proc.specs.Kept.{IsReady, Keeps, StopsWell, process_of, scheme_of};
-ghost use Rattle.guest_proc.specs.Process.{CallEnds, IsOneBlock, WantsMemory, stop_of};
+ghost use Rattle.guest_proc.specs.Process.{Advances, WantsMemory};
 
 use crate::begin::begin;
 use crate::call::call;
@@ -12,10 +12,13 @@ use crate::stop::{Ran, Stop};
 use block_book::Book;
 use block_build::Maker;
 use cc_base::Steps;
+use plain_machine::End;
 use std::alloc::{AllocError, Global};
 use std::sync::ledger::Ledger;
 
-/// Runs one block, with the call at its end, if there is one. It answers the stop that comes in the block, if one does.
+/// Runs one block, with the call at its end, if there is one, unless a stop comes before it. It answers the stop that comes
+/// before the block or in it, if one does.
+#[inline]
 pub fn run_one_block<B: Book, M: Maker, L: Ledger>(
     alloc: Global,
     at: &mut Running,
@@ -25,9 +28,7 @@ pub fn run_one_block<B: Book, M: Maker, L: Ledger>(
     steps: &mut Steps<L>,
 ) -> Result<Option<Stop>, AllocError>
     requires ready { IsReady (scheme_of at.old limits) (process_of at.old (B.ledger book.old)) }
-    requires begins { stop_of limits.pool (process_of at.old (B.ledger book.old)) ≡ None }
-    ensures ran { IfOk result (CallEnds (scheme_of at.old limits) (process_of at.old (B.ledger book.old)) (process_of at.new (B.ledger book.new))) }
-    ensures one { OnOk result (IsOneBlock (process_of at.old (B.ledger book.old)) (process_of at.new (B.ledger book.new))) }
+    ensures ran { IfOk result (Advances (scheme_of at.old limits) (process_of at.old (B.ledger book.old)) (process_of at.new (B.ledger book.new))) }
     ensures ready { OnOk result (IsReady (scheme_of at.new limits) (process_of at.new (B.ledger book.new))) }
     ensures keeps { OnOk result (Keeps (process_of at.old (B.ledger book.old)) (process_of at.new (B.ledger book.new))) }
     ensures asks { IfOk result (λ stop. StopsWell stop at.new.io) }
@@ -35,10 +36,14 @@ pub fn run_one_block<B: Book, M: Maker, L: Ledger>(
     ensures wants { OnErr result (WantsMemory (scheme_of at.old limits) (process_of at.old (B.ledger book.old))) }
     ensures tool { at.new.report.tool ≡ at.old.report.tool }
 {
+    if at.fuel == 0 {
+        return Ok(Some(Stop::Ended(End::Fuel)));
+    }
     let tool = at.report.tool();
-    begin(
-        alloc, &at.cpu, &at.mem, tool, limits.max, book, maker, steps,
-    )?;
+    let before = begin(alloc, &at.cpu, &at.mem, tool, limits, book, maker, steps)?;
+    if let Some(stop) = before {
+        return Ok(Some(stop));
+    }
     match run_ready(
         &mut at.cpu,
         &mut at.mem,

@@ -50,9 +50,7 @@ pub fn run_ready<B: Book>(
     ensures small { (key : ℕ) → count_at report.new.counts key + fuel.new < 2 ^ 64 }
     ensures tool { report.new.tool ≡ report.old.tool }
 {
-    let Some(_) = mem.code_at(cpu.pc) else {
-        unreachable!()
-    };
+    mem.laws();
     let Some(block) = book.current() else {
         unreachable!()
     };

@@ -5,8 +5,9 @@ ghost use Rattle.block_ledger.specs.Ledger.{new_ledger};
 ghost use Rattle.region_laws.specs.Heap.{HeapIsData};
 ghost use Rattle.guest_proc.specs.Begun.{AreMade};
 ghost use Rattle.guest_proc.specs.Kept.{IsReady, Keeps, StopsWell, process_of, scheme_of};
-ghost use Rattle.guest_proc.specs.Process.{CameToWant, RanOn, RanOne, WantsMemory, stop_of};
+ghost use Rattle.guest_proc.specs.Process.{Advances, CameToWant, RanOn, RanOne, WantsMemory, stop_of};
 
+use crate::begin::stop_before;
 use crate::block::run_one_block;
 use crate::process::Proc;
 use crate::running::{Limits, Running};
@@ -14,7 +15,7 @@ use crate::stop::Stop;
 use block_book::Book;
 use block_build::{Maker, PlainMaker};
 use cc_base::Steps;
-use plain_machine::{End, Kind};
+use plain_machine::End;
 use std::alloc::{AllocError, Global};
 use std::sync::ledger::Ledger;
 
@@ -48,17 +49,7 @@ impl<B: Book> Proc<B> {
         if self.at.fuel == 0 {
             return Some(Stop::Ended(End::Fuel));
         }
-        let Ok(_) = self.at.mem.fetch(self.at.cpu.pc) else {
-            return Some(Stop::Ended(End::Fault {
-                kind: Kind::Fetch,
-                pc: self.at.cpu.pc,
-            }));
-        };
-        if self.book.wants_room(self.limits.pool, self.at.cpu.pc) {
-            Some(Stop::PoolFull)
-        } else {
-            None
-        }
+        stop_before(self.at.cpu.pc, &self.at.mem, self.limits.pool, &self.book)
     }
 
     /// At most one block: where a stop comes before a block begins it answers that stop; else it runs one block, and
@@ -80,11 +71,32 @@ impl<B: Book> Proc<B> {
         ensures entered { self.new.entered ≡ self.old.entered }
         ensures scheme { scheme_of self.new.at self.new.limits ≡ scheme_of self.old.at self.old.limits }
     {
+        if let Some(stop) = self.advance(maker, steps)? {
+            return Ok(Some(stop));
+        }
+        Ok(self.stop())
+    }
+
+    // At most one block: the stop that it answers came before the block or in it.
+    #[inline]
+    fn advance<M: Maker, L: Ledger>(
+        &mut self,
+        maker: &mut M,
+        steps: &mut Steps<L>,
+    ) -> Result<Option<Stop>, AllocError>
+        ensures ran { IfOk result (Advances (scheme_of self.old.at self.old.limits) (process_of self.old.at (B.ledger self.old.book)) (process_of self.new.at (B.ledger self.new.book))) }
+        ensures keeps { OnOk result (Keeps (process_of self.old.at (B.ledger self.old.book)) (process_of self.new.at (B.ledger self.new.book))) }
+        ensures asks { IfOk result (λ stop. StopsWell stop self.new.at.io) }
+        ensures made { OnOk result (AreMade (B.ledger self.old.book).counts.built (B.ledger self.new.book).counts.built steps.old steps.new (M.taken maker.old) (M.taken maker.new)) }
+        ensures wants { OnErr result ((self.old.spent ≡ true) ⊎ WantsMemory (scheme_of self.old.at self.old.limits) (process_of self.old.at (B.ledger self.old.book))) }
+        ensures spent { self.old.spent ≡ true → IsErr result }
+        ensures after { OnErr result (self.new.spent ≡ true) }
+        ensures lasts { OnOk result (self.new.spent ≡ self.old.spent) }
+        ensures entered { self.new.entered ≡ self.old.entered }
+        ensures scheme { scheme_of self.new.at self.new.limits ≡ scheme_of self.old.at self.old.limits }
+    {
         if self.spent {
             return Err(AllocError);
-        }
-        if let Some(stop) = self.stop() {
-            return Ok(Some(stop));
         }
         self.spent = true;
         let stop = run_one_block(
@@ -96,10 +108,7 @@ impl<B: Book> Proc<B> {
             steps,
         )?;
         self.spent = false;
-        if stop.is_some() {
-            return Ok(stop);
-        }
-        Ok(self.stop())
+        Ok(stop)
     }
 
     /// Runs on until a stop, over any maker of blocks. The pool is full exactly where the next block is not live and there
@@ -120,7 +129,7 @@ impl<B: Book> Proc<B> {
         ensures scheme { scheme_of self.new.at self.new.limits ≡ scheme_of self.old.at self.old.limits }
     {
         loop {
-            if let Some(stop) = self.run_one(maker, steps)? {
+            if let Some(stop) = self.advance(maker, steps)? {
                 return Ok(stop);
             }
         }

@@ -1,38 +1,36 @@
-use Rattle.std.proofs.Common.{◌≡◌, ℕ, ◌-◌, Some, None, sym, ap, ◌∙◌, subst}
+use Rattle.std.proofs.Common.{◌≡◌, ◌-◌, Some, sym, ap, ◌∙◌, subst}
 use Rattle.std.proofs.lemmas.Option.{same_Some}
 use Rattle.std.proofs.lemmas.Result.{err_from_is_err_and}
-use Rattle.plain_machine.specs.Io.{Io}
 use Rattle.plain_machine.specs.Calls.{called}
-use Rattle.fragment.specs.Parts.{Parts}
 use Rattle.engine.specs.declared.block.Left.TheVariants as lefts
 use Rattle.engine.specs.Standing.{CodeAfter, state}
 use Rattle.block_ledger.specs.Ledger.{view, left_by, written}
 use Rattle.block_ledger.specs.Traced.{after_call, direct, range_of}
 use Rattle.guest_proc.specs.Fresh.{block_in}
-use Rattle.guest_proc.specs.Process.{LacksRow, nothing, process, trace}
+use Rattle.guest_proc.specs.Process.{nothing, trace}
 use Rattle.guest_proc.proofs.Put.{found-at}
 use Rattle.guest_proc.proofs.Blocks.{leave-small, mapped-put, kept-stored, no_io, on_err, own-stands, ran-block}
 use Rattle.guest_proc.proofs.ready.run_ready.Goals as goal
 
 pub run_block-requires-clause-begins : goal.run_block-requires-clause-begins
 run_block-requires-clause-begins g c =
-    let seen : view (g.B.Book.ledger c.args.book.now) c.args.cpu.now.pc ≡ Some c.in-Some-current.block.now = ap (view (g.B.Book.ledger c.args.book.now)) (sym c.requires.here) ∙ sym c.in-Some-current.ensures in
-    let there : block_in c.args.report.now.tool c.args.max c.args.cpu.now.isa c.args.mem.now c.args.cpu.now.pc ≡ Some c.in-Some-current.block.now = c.requires.fresh c.args.cpu.now.pc c.in-Some-current.block.now seen in
-    sym (found-at c.args.report.now.tool c.args.max c.args.cpu.now.isa c.args.mem.now c.args.cpu.now.pc c.in-Some-current.block.now c.requires.some there).at
+    let seen : view (g.B.Book.ledger c.args.book.now) c.args.cpu.now.pc ≡ Some c.in-Some.block.now = ap (view (g.B.Book.ledger c.args.book.now)) (sym c.requires.here) ∙ sym c.in-Some.ensures in
+    let there : block_in c.args.report.now.tool c.args.max c.args.cpu.now.isa c.args.mem.now c.args.cpu.now.pc ≡ Some c.in-Some.block.now = c.requires.fresh c.args.cpu.now.pc c.in-Some.block.now seen in
+    sym (found-at c.args.report.now.tool c.args.max c.args.cpu.now.isa c.args.mem.now c.args.cpu.now.pc c.in-Some.block.now c.requires.some there).at
 
 pub run_block-requires-clause-fresh : goal.run_block-requires-clause-fresh
 run_block-requires-clause-fresh g c =
-    let seen : view (g.B.Book.ledger c.args.book.now) c.args.cpu.now.pc ≡ Some c.in-Some-current.block.now = ap (view (g.B.Book.ledger c.args.book.now)) (sym c.requires.here) ∙ sym c.in-Some-current.ensures in
-    let there : block_in c.args.report.now.tool c.args.max c.args.cpu.now.isa c.args.mem.now c.args.cpu.now.pc ≡ Some c.in-Some-current.block.now = c.requires.fresh c.args.cpu.now.pc c.in-Some-current.block.now seen in
-    own-stands c.args.report.now.tool c.args.max c.args.cpu.now.isa c.args.mem.now c.args.cpu.now.pc c.in-Some-current.block.now c.requires.some c.code_at.ensures.memory there
+    let seen : view (g.B.Book.ledger c.args.book.now) c.args.cpu.now.pc ≡ Some c.in-Some.block.now = ap (view (g.B.Book.ledger c.args.book.now)) (sym c.requires.here) ∙ sym c.in-Some.ensures in
+    let there : block_in c.args.report.now.tool c.args.max c.args.cpu.now.isa c.args.mem.now c.args.cpu.now.pc ≡ Some c.in-Some.block.now = c.requires.fresh c.args.cpu.now.pc c.in-Some.block.now seen in
+    own-stands c.args.report.now.tool c.args.max c.args.cpu.now.isa c.args.mem.now c.args.cpu.now.pc c.in-Some.block.now c.requires.some c.laws.ensures there
 
 pub returns-in_err-left-clause-wants : goal.returns-in_err-left-clause-wants
 returns-in_err-left-clause-wants g c =
-    let seen : view (g.B.Book.ledger c.args.book.now) c.args.cpu.now.pc ≡ Some c.in-Some-current.block.now = ap (view (g.B.Book.ledger c.args.book.now)) (sym c.requires.here) ∙ sym c.in-Some-current.ensures in
-    let there : block_in c.args.report.now.tool c.args.max c.args.cpu.now.isa c.args.mem.now c.args.cpu.now.pc ≡ Some c.in-Some-current.block.now = c.requires.fresh c.args.cpu.now.pc c.in-Some-current.block.now seen in
+    let seen : view (g.B.Book.ledger c.args.book.now) c.args.cpu.now.pc ≡ Some c.in-Some.block.now = ap (view (g.B.Book.ledger c.args.book.now)) (sym c.requires.here) ∙ sym c.in-Some.ensures in
+    let there : block_in c.args.report.now.tool c.args.max c.args.cpu.now.isa c.args.mem.now c.args.cpu.now.pc ≡ Some c.in-Some.block.now = c.requires.fresh c.args.cpu.now.pc c.in-Some.block.now seen in
     let e = err_from_is_err_and c.from_residual.result c.from_residual.ensures.1 in
     on_err c.from_residual.result e.0 _ e.1 (λ io. record {
-      block = c.in-Some-current.block.now;
+      block = c.in-Some.block.now;
       ready = seen;
       words = c.args.fuel.now - c.run_block.new.fuel;
       state = state c.run_block.new.cpu c.run_block.new.mem io;
@@ -42,52 +40,52 @@ returns-in_err-left-clause-wants g c =
 
 pub leave-requires : goal.leave-requires
 leave-requires g c =
-    let seen : view (g.B.Book.ledger c.args.book.now) c.args.cpu.now.pc ≡ Some c.in-Some-current.block.now = ap (view (g.B.Book.ledger c.args.book.now)) (sym c.requires.here) ∙ sym c.in-Some-current.ensures in
-    let there : block_in c.args.report.now.tool c.args.max c.args.cpu.now.isa c.args.mem.now c.args.cpu.now.pc ≡ Some c.in-Some-current.block.now = c.requires.fresh c.args.cpu.now.pc c.in-Some-current.block.now seen in
-    leave-small c.args.report.now.tool c.args.max c.args.cpu.now.isa c.args.mem.now c.args.cpu.now.pc c.in-Exit.e c.in-Some-current.block.now c.exits.result.now c.direct-exit.result c.requires.some there c.exits.ensures c.direct-exit.ensures
+    let seen : view (g.B.Book.ledger c.args.book.now) c.args.cpu.now.pc ≡ Some c.in-Some.block.now = ap (view (g.B.Book.ledger c.args.book.now)) (sym c.requires.here) ∙ sym c.in-Some.ensures in
+    let there : block_in c.args.report.now.tool c.args.max c.args.cpu.now.isa c.args.mem.now c.args.cpu.now.pc ≡ Some c.in-Some.block.now = c.requires.fresh c.args.cpu.now.pc c.in-Some.block.now seen in
+    leave-small c.args.report.now.tool c.args.max c.args.cpu.now.isa c.args.mem.now c.args.cpu.now.pc c.in-Exit.e c.in-Some.block.now c.exits.result.now c.direct-exit.result c.requires.some there c.exits.ensures c.direct-exit.ensures
 
 pub returns-in-Exit-clause-ran : goal.returns-in-Exit-clause-ran
 returns-in-Exit-clause-ran g c = λ scheme io led block tool_is max_is is begun.
-    let seen : view (g.B.Book.ledger c.args.book.now) c.args.cpu.now.pc ≡ Some c.in-Some-current.block.now = ap (view (g.B.Book.ledger c.args.book.now)) (sym c.requires.here) ∙ sym c.in-Some-current.ensures in
-    let there : block_in c.args.report.now.tool c.args.max c.args.cpu.now.isa c.args.mem.now c.args.cpu.now.pc ≡ Some c.in-Some-current.block.now = c.requires.fresh c.args.cpu.now.pc c.in-Some-current.block.now seen in
-    ran-block scheme c.args.max c.in-Some-current.block.now block c.args.fuel.now c.run_block.new.fuel c.args.cpu.now c.run_block.new.cpu c.args.mem.now c.run_block.new.mem io c.in_ok-left.left (lefts.Exit c.in-Exit.e) c.args.report.now c.run_block.new.report led
-    (g.B.Book.ledger c.args.book.now) (g.B.Book.ledger c.leave.new.self) (nothing) c.requires.some tool_is max_is c.code_at.ensures.memory there (same_Some c.in-Some-current.block.now block (sym seen ∙ is)) begun
+    let seen : view (g.B.Book.ledger c.args.book.now) c.args.cpu.now.pc ≡ Some c.in-Some.block.now = ap (view (g.B.Book.ledger c.args.book.now)) (sym c.requires.here) ∙ sym c.in-Some.ensures in
+    let there : block_in c.args.report.now.tool c.args.max c.args.cpu.now.isa c.args.mem.now c.args.cpu.now.pc ≡ Some c.in-Some.block.now = c.requires.fresh c.args.cpu.now.pc c.in-Some.block.now seen in
+    ran-block scheme c.args.max c.in-Some.block.now block c.args.fuel.now c.run_block.new.fuel c.args.cpu.now c.run_block.new.cpu c.args.mem.now c.run_block.new.mem io c.in_ok-left.left (lefts.Exit c.in-Exit.e) c.args.report.now c.run_block.new.report led
+    (g.B.Book.ledger c.args.book.now) (g.B.Book.ledger c.leave.new.self) (nothing) c.requires.some tool_is max_is c.laws.ensures there (same_Some c.in-Some.block.now block (sym seen ∙ is)) begun
     (λ k i. c.in_ok-left.ensures.runs k i) c.in-Exit.is c.in_ok-left.ensures.report
     (λ w maps units calls. ap (λ l. trace l maps units calls) (sym (c.leave.ensures ∙ ap (λ e. left_by e (g.B.Book.ledger c.args.book.now)) (c.direct-exit.ensures ∙ ap (direct c.in-Exit.e) c.exits.ensures))))
 
 pub returns-in-Touched-clause-ran : goal.returns-in-Touched-clause-ran
 returns-in-Touched-clause-ran g c = λ scheme io led block tool_is max_is is begun.
-    let seen : view (g.B.Book.ledger c.args.book.now) c.args.cpu.now.pc ≡ Some c.in-Some-current.block.now = ap (view (g.B.Book.ledger c.args.book.now)) (sym c.requires.here) ∙ sym c.in-Some-current.ensures in
-    let there : block_in c.args.report.now.tool c.args.max c.args.cpu.now.isa c.args.mem.now c.args.cpu.now.pc ≡ Some c.in-Some-current.block.now = c.requires.fresh c.args.cpu.now.pc c.in-Some-current.block.now seen in
-    ran-block scheme c.args.max c.in-Some-current.block.now block c.args.fuel.now c.run_block.new.fuel c.args.cpu.now c.run_block.new.cpu c.args.mem.now c.run_block.new.mem io c.in_ok-left.left (lefts.Touched c.in-Touched.span) c.args.report.now c.run_block.new.report led
-    (g.B.Book.ledger c.args.book.now) (g.B.Book.ledger c.write.new.self) (nothing) c.requires.some tool_is max_is c.code_at.ensures.memory there (same_Some c.in-Some-current.block.now block (sym seen ∙ is)) begun
+    let seen : view (g.B.Book.ledger c.args.book.now) c.args.cpu.now.pc ≡ Some c.in-Some.block.now = ap (view (g.B.Book.ledger c.args.book.now)) (sym c.requires.here) ∙ sym c.in-Some.ensures in
+    let there : block_in c.args.report.now.tool c.args.max c.args.cpu.now.isa c.args.mem.now c.args.cpu.now.pc ≡ Some c.in-Some.block.now = c.requires.fresh c.args.cpu.now.pc c.in-Some.block.now seen in
+    ran-block scheme c.args.max c.in-Some.block.now block c.args.fuel.now c.run_block.new.fuel c.args.cpu.now c.run_block.new.cpu c.args.mem.now c.run_block.new.mem io c.in_ok-left.left (lefts.Touched c.in-Touched.span) c.args.report.now c.run_block.new.report led
+    (g.B.Book.ledger c.args.book.now) (g.B.Book.ledger c.write.new.self) (nothing) c.requires.some tool_is max_is c.laws.ensures there (same_Some c.in-Some.block.now block (sym seen ∙ is)) begun
     (λ k i. c.in_ok-left.ensures.runs k i) c.in-Touched.is c.in_ok-left.ensures.report
     (λ w maps units calls. ap (λ l. trace l maps units calls) (sym (c.write.ensures ∙ ap (written (range_of c.in-Touched.span)) c.leave-in-Touched.ensures)))
 
 pub returns-in-Fuel-clause-ran : goal.returns-in-Fuel-clause-ran
 returns-in-Fuel-clause-ran g c = λ scheme io led block tool_is max_is is begun.
-    let seen : view (g.B.Book.ledger c.args.book.now) c.args.cpu.now.pc ≡ Some c.in-Some-current.block.now = ap (view (g.B.Book.ledger c.args.book.now)) (sym c.requires.here) ∙ sym c.in-Some-current.ensures in
-    let there : block_in c.args.report.now.tool c.args.max c.args.cpu.now.isa c.args.mem.now c.args.cpu.now.pc ≡ Some c.in-Some-current.block.now = c.requires.fresh c.args.cpu.now.pc c.in-Some-current.block.now seen in
-    ran-block scheme c.args.max c.in-Some-current.block.now block c.args.fuel.now c.run_block.new.fuel c.args.cpu.now c.run_block.new.cpu c.args.mem.now c.run_block.new.mem io c.in_ok-left.left (lefts.Fuel) c.args.report.now c.run_block.new.report led
-    (g.B.Book.ledger c.args.book.now) (g.B.Book.ledger c.leave-in-Fuel.new.self) (nothing) c.requires.some tool_is max_is c.code_at.ensures.memory there (same_Some c.in-Some-current.block.now block (sym seen ∙ is)) begun
+    let seen : view (g.B.Book.ledger c.args.book.now) c.args.cpu.now.pc ≡ Some c.in-Some.block.now = ap (view (g.B.Book.ledger c.args.book.now)) (sym c.requires.here) ∙ sym c.in-Some.ensures in
+    let there : block_in c.args.report.now.tool c.args.max c.args.cpu.now.isa c.args.mem.now c.args.cpu.now.pc ≡ Some c.in-Some.block.now = c.requires.fresh c.args.cpu.now.pc c.in-Some.block.now seen in
+    ran-block scheme c.args.max c.in-Some.block.now block c.args.fuel.now c.run_block.new.fuel c.args.cpu.now c.run_block.new.cpu c.args.mem.now c.run_block.new.mem io c.in_ok-left.left (lefts.Fuel) c.args.report.now c.run_block.new.report led
+    (g.B.Book.ledger c.args.book.now) (g.B.Book.ledger c.leave-in-Fuel.new.self) (nothing) c.requires.some tool_is max_is c.laws.ensures there (same_Some c.in-Some.block.now block (sym seen ∙ is)) begun
     (λ k i. c.in_ok-left.ensures.runs k i) c.in-Fuel.is c.in_ok-left.ensures.report
     (λ w maps units calls. ap (λ l. trace l maps units calls) (sym (c.leave-in-Fuel.ensures)))
 
 pub returns-in-Fault-clause-ran : goal.returns-in-Fault-clause-ran
 returns-in-Fault-clause-ran g c = λ scheme io led block tool_is max_is is begun.
-    let seen : view (g.B.Book.ledger c.args.book.now) c.args.cpu.now.pc ≡ Some c.in-Some-current.block.now = ap (view (g.B.Book.ledger c.args.book.now)) (sym c.requires.here) ∙ sym c.in-Some-current.ensures in
-    let there : block_in c.args.report.now.tool c.args.max c.args.cpu.now.isa c.args.mem.now c.args.cpu.now.pc ≡ Some c.in-Some-current.block.now = c.requires.fresh c.args.cpu.now.pc c.in-Some-current.block.now seen in
-    ran-block scheme c.args.max c.in-Some-current.block.now block c.args.fuel.now c.run_block.new.fuel c.args.cpu.now c.run_block.new.cpu c.args.mem.now c.run_block.new.mem io c.in_ok-left.left (lefts.Fault c.in-Fault.kind) c.args.report.now c.run_block.new.report led
-    (g.B.Book.ledger c.args.book.now) (g.B.Book.ledger c.leave-in-Fault.new.self) (nothing) c.requires.some tool_is max_is c.code_at.ensures.memory there (same_Some c.in-Some-current.block.now block (sym seen ∙ is)) begun
+    let seen : view (g.B.Book.ledger c.args.book.now) c.args.cpu.now.pc ≡ Some c.in-Some.block.now = ap (view (g.B.Book.ledger c.args.book.now)) (sym c.requires.here) ∙ sym c.in-Some.ensures in
+    let there : block_in c.args.report.now.tool c.args.max c.args.cpu.now.isa c.args.mem.now c.args.cpu.now.pc ≡ Some c.in-Some.block.now = c.requires.fresh c.args.cpu.now.pc c.in-Some.block.now seen in
+    ran-block scheme c.args.max c.in-Some.block.now block c.args.fuel.now c.run_block.new.fuel c.args.cpu.now c.run_block.new.cpu c.args.mem.now c.run_block.new.mem io c.in_ok-left.left (lefts.Fault c.in-Fault.kind) c.args.report.now c.run_block.new.report led
+    (g.B.Book.ledger c.args.book.now) (g.B.Book.ledger c.leave-in-Fault.new.self) (nothing) c.requires.some tool_is max_is c.laws.ensures there (same_Some c.in-Some.block.now block (sym seen ∙ is)) begun
     (λ k i. c.in_ok-left.ensures.runs k i) c.in-Fault.is c.in_ok-left.ensures.report
     (λ w maps units calls. ap (λ l. trace l maps units calls) (sym (c.leave-in-Fault.ensures)))
 
 pub returns-in-Asked-clause-ran : goal.returns-in-Asked-clause-ran
 returns-in-Asked-clause-ran g c = λ scheme io led block tool_is max_is is begun.
-    let seen : view (g.B.Book.ledger c.args.book.now) c.args.cpu.now.pc ≡ Some c.in-Some-current.block.now = ap (view (g.B.Book.ledger c.args.book.now)) (sym c.requires.here) ∙ sym c.in-Some-current.ensures in
-    let there : block_in c.args.report.now.tool c.args.max c.args.cpu.now.isa c.args.mem.now c.args.cpu.now.pc ≡ Some c.in-Some-current.block.now = c.requires.fresh c.args.cpu.now.pc c.in-Some-current.block.now seen in
-    ran-block scheme c.args.max c.in-Some-current.block.now block c.args.fuel.now c.run_block.new.fuel c.args.cpu.now c.run_block.new.cpu c.args.mem.now c.run_block.new.mem io c.in_ok-left.left (lefts.Asked) c.args.report.now c.run_block.new.report led
-    (g.B.Book.ledger c.args.book.now) (g.B.Book.ledger c.leave-in-Asked.new.self) (λ w. after_call w scheme (called c.run_block.new.cpu c.run_block.new.mem io)) c.requires.some tool_is max_is c.code_at.ensures.memory there (same_Some c.in-Some-current.block.now block (sym seen ∙ is)) begun
+    let seen : view (g.B.Book.ledger c.args.book.now) c.args.cpu.now.pc ≡ Some c.in-Some.block.now = ap (view (g.B.Book.ledger c.args.book.now)) (sym c.requires.here) ∙ sym c.in-Some.ensures in
+    let there : block_in c.args.report.now.tool c.args.max c.args.cpu.now.isa c.args.mem.now c.args.cpu.now.pc ≡ Some c.in-Some.block.now = c.requires.fresh c.args.cpu.now.pc c.in-Some.block.now seen in
+    ran-block scheme c.args.max c.in-Some.block.now block c.args.fuel.now c.run_block.new.fuel c.args.cpu.now c.run_block.new.cpu c.args.mem.now c.run_block.new.mem io c.in_ok-left.left (lefts.Asked) c.args.report.now c.run_block.new.report led
+    (g.B.Book.ledger c.args.book.now) (g.B.Book.ledger c.leave-in-Asked.new.self) (λ w. after_call w scheme (called c.run_block.new.cpu c.run_block.new.mem io)) c.requires.some tool_is max_is c.laws.ensures there (same_Some c.in-Some.block.now block (sym seen ∙ is)) begun
     (λ k i. c.in_ok-left.ensures.runs k i) c.in-Asked.is c.in_ok-left.ensures.report
     (λ w maps units calls. ap (λ l. after_call w scheme (called c.run_block.new.cpu c.run_block.new.mem io) (trace l maps units calls)) (sym c.leave-in-Asked.ensures))
 
