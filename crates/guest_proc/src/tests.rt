@@ -26,7 +26,10 @@ const OTHER: u32 = 0x2_0000;
 
 // The file of a program that has these words alone, at this address.
 fn elf_of(alloc: Global, addr: u32, words: &[u32]) -> Result<Elf, Fail> {
-    let size = 4 * u32::try_from(words.len()).unwrap_or(0);
+    if words.len() > 1000 {
+        return Err(Fail::from("too many words"));
+    }
+    let size = 4 * words.len() as u32;
     let mut file = Vec::new(alloc);
     file.extend_from_slice(&[0x7f, 0x45, 0x4c, 0x46, 1, 1, 1, 0])?;
     file.extend_from_slice(&[0; 8])?;
@@ -170,17 +173,15 @@ fn attach_empty(
 }
 
 // A module that was placed is taken away, where no segment is attached.
-fn take_away(
-    rt: &impl Abort,
-    guest: &mut Proc<CodeBook>,
-    module: u32,
-    elf: &Elf,
-) -> Result<(), Fail>
+fn take_away(guest: &mut Proc<CodeBook>, module: u32, elf: &Elf) -> Result<(), Fail>
     requires few { «module» < 1073741824 }
     requires top { top_of elf.now 0 ≤ 4294967295 }
     requires stand { AllStand guest.old.at.mem guest.old.at.io.heap (base_of elf.now 0) elf.now.segments }
 {
-    assert!(rt; guest.segments()?.is_empty());
+    let numbers = guest.segments()?;
+    if numbers.len() > 0 {
+        return Err(Fail::from("a segment is attached"));
+    }
     guest.unplace(module, elf, 0);
     Ok(())
 }
@@ -207,7 +208,7 @@ fn maps_another<L: Ledger>(rt: &impl Abort, alloc: Global, blank: Blank) -> Resu
     let mut steps = Steps::<L>::of(blank);
     assert_eq!(rt; guest.run(&mut steps)?, Stop::Map(1));
     assert!(rt; guest.place(1, 1, &other, 0)?);
-    take_away(rt, &mut guest, 1, &other)?;
+    take_away(&mut guest, 1, &other)?;
     assert!(rt; !guest.at.io.is_mapped(1) && guest.at.mem.code_at(OTHER).is_none());
     guest.answer(7);
     let stop = guest.run(&mut steps)?;
