@@ -128,10 +128,13 @@ end-is (stop.Unmap k) end is = absurd (cc)
 end-is (stop.Replace k f) end is = absurd (cc)
 end-is stop.PoolFull end is = absurd (cc)
 
--- a process that answered is not spent
-pub not-spent : {A E : Type 0} (spent now : Bool) (r : Result A E) (x : A) → r ≡ Ok x → (spent ≡ true → IsErr r) → now ≡ spent → now ≡ false
-not-spent false now r x ok err same = same
-not-spent true now r x ok err same = let wrong : false ≡ true = subst IsErr ok (err refl) in absurd (cc)
+pub no-error : {A E : Type 0} (r : Result A E) (x : A) → r ≡ Ok x → IsErr r → ⊥
+no-error r x ok err = let wrong : false ≡ true = subst IsErr ok err in absurd (cc)
+
+-- a process that answered was not spent
+pub not-spent : {A E : Type 0} (spent : Bool) (r : Result A E) (x : A) → r ≡ Ok x → (spent ≡ true → IsErr r) → spent ≡ false
+not-spent false r x ok err = refl
+not-spent true r x ok err = absurd (no-error r x ok (err refl))
 
 pub ahead-room : (scheme : Scheme) (old first now new : Process) → 0 < scheme.pool → IsMemory now.state.memory → now.state.cpu.pc % 4 ≡ 0 → Ahead scheme old first → RanOn scheme first now stop.PoolFull → new ≡ roomy now → Ahead scheme old new
 ahead-room scheme old first now new big good aligned a ran is = λ last s more. a last s (room-goes-on scheme first now last s big good aligned ran (subst (λ q. RanOn scheme q last s) is more))

@@ -1,5 +1,5 @@
 // A full pool.
-ghost use Rattle.std.specs.Prelude.{◌≡◌, false, Some, None, IfOk, OnOk, IsErr};
+ghost use Rattle.std.specs.Prelude.{◌≡◌, true, false, Some, None, IfOk, OnOk, IsErr};
 ghost use Rattle.std.specs.FinMap as fin;
 ghost use Rattle.block_ledger.specs.Ledger.{all_offered};
 ghost use Rattle.guest_proc.specs.Kept.{Keeps, StopsWell, process_of, scheme_of};
@@ -43,7 +43,7 @@ fn make_room<B: Book>(guest: &mut Proc<B>) -> Result<(), AllocError>
     ensures room { OnOk result ((process_of guest.new.at (B.ledger guest.new.book)) ≡ roomy (process_of guest.old.at (B.ledger guest.old.book))) }
     ensures scheme { (scheme_of guest.new.at guest.new.limits) ≡ (scheme_of guest.old.at guest.old.limits) }
     ensures entered { guest.new.entered ≡ guest.old.entered }
-    ensures spent { OnOk result (guest.new.spent ≡ guest.old.spent) }
+    ensures after { guest.old.spent ≡ true → IsErr result }
 {
     offer_all(guest)?;
     guest.flush();
@@ -55,7 +55,7 @@ pub fn offer_all<B: Book>(guest: &mut Proc<B>) -> Result<(), AllocError>
     ensures offered { OnOk result ((process_of guest.new.at (B.ledger guest.new.book)) ≡ put_to (process_of guest.old.at (B.ledger guest.old.book)) (process_of guest.old.at (B.ledger guest.old.book)).state (all_offered (fin.keys (B.ledger guest.old.book).segments) (B.ledger guest.old.book))) }
     ensures scheme { (scheme_of guest.new.at guest.new.limits) ≡ (scheme_of guest.old.at guest.old.limits) }
     ensures entered { guest.new.entered ≡ guest.old.entered }
-    ensures spent { OnOk result (guest.new.spent ≡ guest.old.spent) }
+    ensures after { guest.old.spent ≡ true → IsErr result }
 {
     let numbers = guest.segments()?;
     offer_to(&numbers, guest)
@@ -67,7 +67,6 @@ fn offer_to<B: Book>(numbers: &[u32], guest: &mut Proc<B>) -> Result<(), AllocEr
     ensures offered { OnOk result ((process_of guest.new.at (B.ledger guest.new.book)) ≡ put_to (process_of guest.old.at (B.ledger guest.old.book)) (process_of guest.old.at (B.ledger guest.old.book)).state (all_offered numbers.now (B.ledger guest.old.book))) }
     ensures scheme { (scheme_of guest.new.at guest.new.limits) ≡ (scheme_of guest.old.at guest.old.limits) }
     ensures entered { guest.new.entered ≡ guest.old.entered }
-    ensures spent { OnOk result (guest.new.spent ≡ guest.old.spent) }
 {
     for number in numbers {
         let blocks = guest.offer(*number / 4, (*number % 4) as u8)?;

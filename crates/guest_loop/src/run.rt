@@ -35,32 +35,35 @@ pub fn run_guest(
     ensures counts { IfOk result (λ ran. HasCounts (one_module elfs.now «module».now.base) (scheme_for setup) (guest_of setup) ran.maps.items (counts_of ran.counts)) }
 {
     let book = CodeBook::new(alloc)?;
-    let mut steps = Steps::<Brand>::of(Blank::new(1));
-    run_over(alloc, elfs, module, setup, book, &mut steps)
+    run_over::<CodeBook, Brand>(alloc, elfs, module, setup, book, Blank::new(1))
 }
 
-// Runs it over a book to which nothing has happened. The counter is that of the blocks that are built.
+// Runs it over a book to which nothing has happened. Nobody asks how many blocks are built.
 fn run_over<B: Book + Drop, L: Ledger>(
     alloc: Global,
     elfs: &[Elf],
     module: &Module,
     setup: Setup,
     book: B,
-    steps: &mut Steps<L>,
+    blank: Blank,
 ) -> Result<Ran, AllocError>
     requires file { «module».now.file < length elfs.now }
     requires new { B.ledger book ≡ new_ledger }
+    requires name { blank.name ≡ L.name }
+    requires parts { blank.parts ≡ L.parts }
+    requires owned { 0 < blank.parts }
     ensures plain { IfOk result (λ ran. IsPlainRun (one_module elfs.now «module».now.base) (guest_of setup) setup.tool setup.max («module».now.file ∷ []) ran.maps.items ran.end ran.output ran.report.counts) }
     ensures tool { IfOk result (λ ran. ran.report.tool ≡ setup.tool) }
     ensures counts { IfOk result (λ ran. HasCounts (one_module elfs.now «module».now.base) (scheme_for setup) (guest_of setup) ran.maps.items (counts_of ran.counts)) }
 {
+    let mut steps = Steps::<L>::of(blank);
     let mut guest = Proc::start(alloc, setup, book)?;
     let mut maps = Vec::new(alloc);
     maps.push(module.file)?;
     if !begin(alloc, elfs, module, &mut guest)? {
         return Ok(told(End::Unplaced, maps, guest));
     }
-    let end = run_out(alloc, elfs, module, &mut guest, steps, &mut maps)?;
+    let end = run_out(alloc, elfs, module, &mut guest, &mut steps, &mut maps)?;
     Ok(told(end, maps, guest))
 }
 

@@ -4,7 +4,7 @@ use Rattle.guest_loop.proofs.Rooming.{offer-first, offers-start, offers-next, of
 use Rattle.guest_loop.proofs.room.offer_to.Goals as goal
 
 pub loop-number-init : goal.loop-number-init
-loop-number-init g c = record { scheme = refl; entered = refl; spent = refl; rest = offers-start c.args.numbers.now (process_of c.args.guest.now.at (g.B.Book.ledger c.args.guest.now.book)) c.requires.attached }
+loop-number-init g c = record { scheme = refl; entered = refl; rest = offers-start c.args.numbers.now (process_of c.args.guest.now.at (g.B.Book.ledger c.args.guest.now.book)) c.requires.attached }
 
 pub offer-requires-clause-attached : goal.offer-requires-clause-attached
 offer-requires-clause-attached g c = offer-first c.args.numbers.now c.loop-number.number-index (g.B.Book.ledger c.loop-number.guest.book) (omega arith) c.loop-number.invariant.rest.attached
@@ -13,7 +13,6 @@ pub loop-number-preserved : goal.loop-number-preserved
 loop-number-preserved g c = record {
   scheme = c.offer.ensures.scheme ∙ c.loop-number.invariant.scheme;
   entered = c.offer.ensures.entered ∙ c.loop-number.invariant.entered;
-  spent = c.in_ok-blocks.ensures.lasts ∙ c.loop-number.invariant.spent;
   rest = offers-next c.args.numbers.now c.loop-number.number-index _ _ _ (process_of c.args.guest.now.at (g.B.Book.ledger c.args.guest.now.book)) (process_of c.loop-number.guest.at (g.B.Book.ledger c.loop-number.guest.book)) (process_of c.offer.new.self.at (g.B.Book.ledger c.offer.new.self.book)) (omega arith) refl refl refl c.loop-number.invariant.rest c.in_ok-blocks.ensures.offered;
 }
 

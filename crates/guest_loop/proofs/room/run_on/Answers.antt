@@ -45,7 +45,7 @@ loop-stop-preserved g c =
     record {
       scheme = c.make_room.ensures.scheme ∙ c.run.ensures.scheme ∙ c.loop-stop.invariant.scheme;
       entered = c.make_room.ensures.entered ∙ c.run.ensures.entered ∙ c.loop-stop.invariant.entered;
-      ahead = ahead-room scheme old first now last c.args.guest.now.limits.room c.kept.ensures.memory (c.kept.ensures.aligned (not-spent c.loop-stop.guest.spent c.run.new.self.spent c.run.result c.in_ok-stop.stop c.in_ok-stop.was c.run.ensures.spent c.in_ok-stop.ensures.lasts))
+      ahead = ahead-room scheme old first now last c.args.guest.now.limits.room c.kept.ensures.memory (c.kept.ensures.aligned (not-spent c.run.new.self.spent c.make_room.result c.in_ok-make_room.field-0 c.in_ok-make_room.was c.make_room.ensures.after))
           c.loop-stop.invariant.ahead (subst (RanOn scheme first now) full ran) c.in_ok-make_room.ensures.room;
       keeps = keeps-both old now last (keeps-both old first now c.loop-stop.invariant.keeps c.in_ok-stop.ensures.keeps) (room-keeps now last c.in_ok-make_room.ensures.room);
     }
