@@ -1,6 +1,5 @@
 -- What a guest holds, and what may be answered, behind one entry more.
-use Rattle.std.proofs.Common.{◌≡◌, ℕ, zero, suc, ◌+◌, ◌<◌, ◌≤◌, ◌==◌, List, [], ◌∷◌, ◌++◌, length, refl, sym, ap, subst, ◌∙◌, arith, slice_get, Option, Some, None, eq-eqb, position}
-use Rattle.std.specs.Prelude.{unwrap_or}
+use Rattle.std.proofs.Common.{◌≡◌, ℕ, zero, suc, ◌<◌, ◌≤◌, List, [], ◌∷◌, ◌++◌, length, refl, sym, ap, subst, ◌∙◌, arith, Option, Some, None, eq-eqb}
 use Rattle.std.proofs.lemmas.List.{length-append}
 use Rattle.std.proofs.lemmas.List.Quantifiers.{position-Some}
 use Rattle.std.proofs.Common.{inl, inr}
@@ -9,14 +8,13 @@ use mathlib.Core.Logic.{dite}
 use native.Mathlib.Decide.{ℕ_discrete}
 use Rattle.registry.specs.declared.entry.Entry.{Entry}
 use Rattle.registry.specs.declared.entry.Entry.TheVariants.{Attach, Merge, Due}
-use Rattle.registry.specs.declared.entry.Merged.{Merged}
 use Rattle.registry.specs.declared.entry.Stamp.{Stamp}
 use Rattle.registry.specs.Content.{Content}
 use Rattle.registry.specs.Opening.{Opening, empty_at}
 use Rattle.registry.specs.State.{State, SlotState, Generation, with_at, due_slot, first_due}
 use Rattle.registry.specs.Registry.{after, attach_age, attach_generation, attached, attaches_generation, age_of, due_entry, generation_in, generation_of, held_at, merged, no_generation, no_state, one_more, new_generation, slot_in, slot_of, with_generation}
-use Rattle.registry.specs.History.{History, Adds, IsHeld, MayAnswer, state_of}
-use Rattle.registry.specs.Laws.{IsAttached, AttachesHold, MergesKeep, DuesMayBeAnswered}
+use Rattle.registry.specs.History.{History, IsHeld, state_of}
+use Rattle.registry.specs.Laws.{AttachesHold, MergesKeep, DuesMayBeAnswered}
 use Rattle.registry.proofs.Dues.{due_there}
 use Rattle.registry.proofs.Keeps.{after-snoc, held_att, map_att, merged_att, one}
 use Rattle.registry.proofs.Places.{length-with_at, nth-with_same, nth-with_other}

@@ -21,8 +21,8 @@ use Rattle.registry.specs.declared.entry.Replaced.{Replaced}
 use Rattle.registry.specs.declared.entry.Merged.{Merged}
 use Rattle.unit_set.specs.Slot.{Slot}
 use Rattle.registry.specs.Opening.{Opening, image_at, empty_at, slot_at, no_slot}
-use Rattle.registry.specs.State.{State, SlotState, Generation, with_at, with_slot}
-use Rattle.registry.specs.Registry.{opened, after, after_all, reg, generation_in, generation_of, slot_in, slot_of, no_generation, no_state, one_more, one_less, new_generation, has_image, age_of, attach_age, attach_generation, held, held_at, attached, with_generation, published_as, shut_now, files_after, replaced_by, slot_opened, slots_opened, is_over, version_after, merged}
+use Rattle.registry.specs.State.{State, SlotState, Generation, with_at}
+use Rattle.registry.specs.Registry.{opened, after, after_all, generation_in, generation_of, slot_in, no_generation, no_state, one_more, one_less, new_generation, has_image, age_of, attach_age, attach_generation, held, held_at, attached, with_generation, published_as, shut_now, files_after, replaced_by, slot_opened, slots_opened, is_over, version_after, merged}
 use Rattle.registry.specs.History.{IsKept, IsHeld, IsOpening, passing, has_file, AreFew, is_attach, is_detach, is_due, is_answer, owed_by, owed_of, IsVersioned, AreVersioned, IsNamed, AreNamed, AreFound}
 use Rattle.registry.proofs.Lists.{set_is, all_nth}
 use Rattle.registry.proofs.Places.{nth-with_same, nth-with_other, length-with_at}

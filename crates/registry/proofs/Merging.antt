@@ -11,9 +11,9 @@ use Rattle.unit_set.specs.declared.unit.Joined.TheVariants.{New, Same, Full}
 use Rattle.registry.proofs.Units.{adds_is, joint_is, union_more, union_same}
 use Rattle.registry.specs.declared.entry.Merged.{Merged}
 use Rattle.registry.specs.declared.entry.Merged.TheVariants.{Version, UnitFull}
-use Rattle.registry.specs.Content.{Content, content_of, union, most_addrs}
+use Rattle.registry.specs.Content.{content_of, union, most_addrs}
 use Rattle.registry.specs.State.{Generation}
-use Rattle.registry.specs.Registry.{is_over, merged, merged_with, merge_reply, merge_reply_with, version_after}
+use Rattle.registry.specs.Registry.{is_over, merged, merge_reply}
 
 -- what it becomes, and what is answered
 pub record Becomes (more : List ℕ) (g new : Generation) (reply : Merged) : Type 0 where

@@ -2,7 +2,7 @@
 use Rattle.std.specs.Prelude.{◌≡◌, ℕ, zero, suc, ◌+◌, ◌≤◌, ◌<◌, ◌-◌, ◌^◌, ◌==◌, ◌&&◌, Bool, true, false, if◌then◌else◌, List, [], ◌∷◌, ◌++◌, length, slice_get, unwrap_or, count_by, sum_by, Option, Some, None}
 use Rattle.std.specs.List.{AllByRecursion, list_any}
 use Rattle.registry.specs.declared.entry.Entry.{Entry}
-use Rattle.registry.specs.declared.entry.Entry.TheVariants.{Map, Replace, Attach, Merge, Detach, Due, Acked, Failed, Finish}
+use Rattle.registry.specs.declared.entry.Entry.TheVariants.{Attach, Detach, Due, Acked, Failed}
 use Rattle.registry.specs.Opening.{Opening, slot_at, image_at}
 use Rattle.unit_set.specs.Slot.{Slot}
 use Rattle.registry.specs.Content.{Content}

@@ -1,5 +1,5 @@
 -- What an attach answers of the generations of a slot.
-use Rattle.std.specs.Prelude.{◌≡◌, ℕ, List, length}
+use Rattle.std.specs.Prelude.{◌≡◌, List}
 use Rattle.std.specs.Arc.{arc_value}
 use Rattle.registry.specs.declared.slot.Attached.{Attached}
 use Rattle.registry.specs.Content.{Content, content_of}

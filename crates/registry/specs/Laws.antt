@@ -2,9 +2,7 @@
 use Rattle.std.specs.Prelude.{◌≡◌, ℕ, ◌<◌, List, length}
 use Rattle.registry.specs.declared.entry.Entry.TheVariants.{Attach, Merge, Due}
 use Rattle.registry.specs.declared.entry.Merged.{Merged}
-use Rattle.registry.specs.State.{State}
-use Rattle.registry.specs.Registry.{after, attaches_generation, generation_of}
-use Rattle.registry.specs.Opening.{Opening}
+use Rattle.registry.specs.Registry.{attaches_generation, generation_of}
 use Rattle.registry.specs.History.{History, Adds, IsHeld, MayAnswer, state_of}
 
 -- a guest holds the generation, whose unit is the one that it was handed

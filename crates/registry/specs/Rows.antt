@@ -1,17 +1,17 @@
 -- Worked rows.
-use Rattle.std.specs.Prelude.{◌≡◌, ℕ, zero, suc, ◌+◌, ◌*◌, List, [], ◌∷◌, ◌++◌, true, false, Option, Some, None, replicate, codes}
+use Rattle.std.specs.Prelude.{◌≡◌, ℕ, zero, suc, ◌+◌, List, [], ◌∷◌, true, false, Option, Some, None, codes}
 use Rattle.cc_base.specs.Image.{Code, Text}
 use Rattle.rv_decode.specs.declared.ins.Isa.TheVariants as isa
 use Rattle.probe_tools.specs.declared.tool.Tool.TheVariants as tools
 use Rattle.unit_set.specs.Slot.{Slot}
 use Rattle.registry.specs.declared.entry.Entry.{Entry}
-use Rattle.registry.specs.declared.entry.Entry.TheVariants.{Map, Replace, Attach, Merge, Detach, Due, Acked, Failed, Finish}
+use Rattle.registry.specs.declared.entry.Entry.TheVariants.{Map, Replace, Attach, Merge, Detach, Due, Acked, Finish}
 use Rattle.registry.specs.declared.entry.Merged.TheVariants.{Version, UnitFull}
 use Rattle.registry.specs.declared.entry.Replaced.TheVariants.{Yes}
-use Rattle.registry.specs.Content.{Content, union}
+use Rattle.registry.specs.Content.{Content}
 use Rattle.registry.specs.Opening.{Opening}
 use Rattle.registry.specs.State.{State, due_slot}
-use Rattle.registry.specs.Registry.{opened, reg, AreReplied, IsReplied, after, entry_for, AsksMerge, AsksDue, told_all, Told, no_unit}
+use Rattle.registry.specs.Registry.{opened, reg, AreReplied, after, entry_for, AsksMerge, told_all, Told, no_unit}
 
 -- ---- the two instructions
 

@@ -1,7 +1,7 @@
-use Rattle.std.proofs.Common.{◌≡◌, ap, ◌∙◌, sym, set}
+use Rattle.std.proofs.Common.{ap, ◌∙◌, sym, set}
 use Rattle.unit_set.specs.Held.{Held}
 use Rattle.registry.specs.Content.{content_of}
-use Rattle.registry.specs.State.{with_at, Generation}
+use Rattle.registry.specs.State.{Generation}
 use Rattle.registry.specs.Registry.{one_more, no_generation}
 use Rattle.registry.proofs.Lists.{set_is, read_is}
 use Rattle.registry.proofs.slot.hold_at.Goals as goal

@@ -1,7 +1,6 @@
-use Rattle.std.proofs.Common.{◌≡◌, ap, ◌∙◌, set, sym, subst, IfOk, OnOk}
+use Rattle.std.proofs.Common.{◌≡◌, ap, ◌∙◌, set, sym, subst, IfOk}
 use Rattle.unit_set.specs.Held.{addresses}
-use Rattle.registry.specs.declared.entry.Merged.{Merged}
-use Rattle.registry.specs.State.{Generation, with_at}
+use Rattle.registry.specs.State.{Generation}
 use Rattle.registry.specs.Registry.{merged, merge_reply, no_generation}
 use Rattle.registry.proofs.Lists.{set_is, read_is, on_ok}
 use Rattle.registry.proofs.slot.merge_in.Goals as goal

@@ -1,5 +1,5 @@
 use Rattle.std.proofs.Common.{◌≡◌, ap, ◌∙◌, set, sym, subst, IfOk, []}
-use Rattle.registry.specs.State.{SlotState, with_at}
+use Rattle.registry.specs.State.{SlotState}
 use Rattle.registry.specs.Registry.{attached, no_state}
 use Rattle.registry.specs.Holds.{IsGeneration}
 use Rattle.registry.proofs.Lists.{set_is, read_is, ok_from}

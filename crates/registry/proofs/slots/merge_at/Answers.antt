@@ -1,7 +1,6 @@
-use Rattle.std.proofs.Common.{◌≡◌, ap, ◌∙◌, set, sym, subst, IfOk, OnOk}
+use Rattle.std.proofs.Common.{◌≡◌, ap, ◌∙◌, set, sym, subst, IfOk}
 use Rattle.unit_set.specs.Held.{addresses}
-use Rattle.registry.specs.declared.entry.Merged.{Merged}
-use Rattle.registry.specs.State.{SlotState, with_at}
+use Rattle.registry.specs.State.{SlotState}
 use Rattle.registry.specs.Registry.{with_generation, generation_in, merged, merge_reply, no_state}
 use Rattle.registry.proofs.Lists.{set_is, read_is, on_ok}
 use Rattle.registry.proofs.slots.merge_at.Goals as goal

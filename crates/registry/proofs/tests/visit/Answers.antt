@@ -1,6 +1,5 @@
-use Rattle.std.proofs.Common.{◌≡◌, ℕ, zero, suc, ◌<◌, ◌∷◌, [], sym, subst, ◌∙◌, arith}
+use Rattle.std.proofs.Common.{ℕ, zero, suc, ◌<◌, ◌∷◌, [], sym, subst, ◌∙◌, arith}
 use Rattle.std.specs.Prelude.{slice_index_or}
-use Rattle.std.specs.Arc.{arc_value}
 use Rattle.fragment.specs.Parts.{Parts}
 use Rattle.unit_set.specs.Held.{IsFreshFor}
 use Rattle.registry.specs.Content.{Content}

@@ -1,4 +1,4 @@
-use Rattle.std.proofs.Common.{◌≡◌, ◌<◌, ℕ, arith, sym, ap, subst, ◌∙◌, [], length, refl}
+use Rattle.std.proofs.Common.{◌≡◌, ℕ, arith, sym, ap, subst, ◌∙◌, [], length, refl}
 use Rattle.std.specs.List.{AllByRecursion}
 use Rattle.cc_base.specs.Image.{Code}
 use Rattle.unit_set.specs.Slot.{Slot}

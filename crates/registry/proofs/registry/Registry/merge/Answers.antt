@@ -1,8 +1,8 @@
-use Rattle.std.proofs.Common.{◌≡◌, ◌≤◌, ◌<◌, ℕ, List, length, arith, sym, ap, subst, ◌∙◌}
+use Rattle.std.proofs.Common.{ℕ, List, arith, sym, ap, subst, ◌∙◌}
 use Rattle.std.specs.List.{All}
-use Rattle.unit_set.specs.Held.{IsFreshFor, addresses}
+use Rattle.unit_set.specs.Held.{IsFreshFor}
 use Rattle.registry.specs.State.{State, with_at}
-use Rattle.registry.specs.Registry.{generation_of, generation_in, slot_in, no_state, no_generation, merged, with_generation}
+use Rattle.registry.specs.Registry.{generation_of, no_state, no_generation, merged, with_generation}
 use Rattle.registry.specs.History.{History, IsHeld, state_of, AreVersioned, IsVersioned}
 use Rattle.registry.proofs.Lists.{all_nth}
 use Rattle.registry.proofs.Keeps.{merge_kept}

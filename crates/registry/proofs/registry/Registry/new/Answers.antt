@@ -1,4 +1,4 @@
-use Rattle.std.proofs.Common.{◌≡◌, ◌∙◌, sym, ap, subst, arith, length, List, ℕ, [], map, option_map, Option, false}
+use Rattle.std.proofs.Common.{◌∙◌, sym, ap, subst, arith, length, List, ℕ, [], map, option_map, false}
 use Rattle.std.specs.Arc.{arc_value}
 use Rattle.registry.specs.declared.entry.Entry.{Entry}
 use Rattle.registry.specs.Content.{content_of}
