@@ -1,0 +1,10 @@
+use Rattle.std.proofs.Common.{ap, ◌∙◌, set}
+use Rattle.registry.specs.State.{SlotState}
+use Rattle.registry.specs.Registry.{shut_now}
+use Rattle.registry.proofs.Lists.{set_is}
+use Rattle.registry.proofs.slots.shut_at.Goals as goal
+
+pub returns : goal.returns
+returns c =
+    ap (λ (x : SlotState). set c.args.slots.now.items c.args.slot (shut_now x)) c.state.view_is
+    ∙ set_is shut_now c.args.slots.now.items c.args.slot c.index_mut-state.result.now c.requires.there c.index_mut-state.ensures.value

@@ -1,0 +1,9 @@
+pub mod Content
+pub mod Opening
+pub mod State
+pub mod Registry
+pub mod Holds
+pub mod History
+pub mod Dues
+pub mod Rows
+pub mod Laws
