@@ -11,7 +11,7 @@ use Rattle.plain_machine.specs.declared.io.Asked.TheVariants as asked
 use Rattle.plain_machine.specs.Memory.{Memory}
 use Rattle.plain_machine.specs.Calls.{is_module, minus}
 use Rattle.plain_machine.specs.Program.{Program, placed}
-use Rattle.plain_machine.specs.Machine.{Maps, Setting, State, Transition, Unmaps, after_placing, after_unmap, base_at, file_at, map_file, map_module, program_in, unmap_from, unmap_module, with_result}
+use Rattle.plain_machine.specs.Machine.{Setting, State, after_placing, after_unmap, base_at, file_at, map_file, map_module, program_in, unmap_from, unmap_module, with_result}
 use Rattle.plain_machine.specs.Run.{run, run_behind}
 use Rattle.plain_machine.specs.Cut.{Marked, marked, with_marks}
 use Rattle.plain_machine.specs.Events.{events, seen}
@@ -23,7 +23,7 @@ use Rattle.block_ledger.proofs.Gets.{kept-insert}
 use Rattle.block_ledger.specs.Traced.{Scheme, Trace, after, calling, codes_of, if_placed, mapped, module_unmapped, on_ledger, program_mapped, traced}
 use Rattle.guest_proc.specs.Process.{Process, Went, trace}
 use Rattle.guest_proc.specs.Maps.{placed_state, put_to}
-use Rattle.map_laws.specs.Came.{Came, Goes, attached_from}
+use Rattle.map_laws.specs.Came.{Came, Goes}
 use Rattle.map_laws.specs.Laws.{MapIsAnswered, MapIsRefused, MapIsUnknown, MapWaits, OffersGo, OneMoreAttached, PlacedAttaches, ReplaceIsAnswered, ReplaceWaits, UnmapIsAnswered, UnmapWaits}
 use Rattle.map_laws.proofs.Stopping.{comes-asking}
 

@@ -1,5 +1,5 @@
 -- A run behind a full pool.
-use Rattle.std.proofs.Common.{◌≡◌, ℕ, zero, suc, ◌<◌, ◌==◌, ◌%◌, ◌⊎◌, ◌∷◌, ◌++◌, [], Bool, true, false, List, Option, Some, None, Result, Ok, Err, refl, sym, ◌∙◌, ap, subst, inl, inr, arith, ⊎_elim}
+use Rattle.std.proofs.Common.{◌≡◌, ℕ, zero, suc, ◌<◌, ◌==◌, ◌%◌, ◌⊎◌, ◌∷◌, ◌++◌, [], Bool, true, false, List, Option, Some, None, Result, Ok, Err, refl, sym, ◌∙◌, ap, subst, inl, inr, arith}
 use Rattle.std.specs.Prelude.{find, if◌then◌else◌}
 use Rattle.std.specs.FinMap as fin
 use Rattle.std.proofs.lemmas.Bool.{cases_Bool}
@@ -18,12 +18,12 @@ use Rattle.plain_machine.specs.Step.{Outcome, step}
 use Rattle.plain_machine.specs.Calls.{Reply, called}
 use Rattle.plain_machine.specs.Machine.{State, Setting, Action, Unfetched, Ends, Goes, Maps, Unmaps, Replaces, action, action_at, is_done, replied, stepped, transition_by}
 use Rattle.plain_machine.specs.Run.{Run, run, run_behind}
-use Rattle.plain_machine.specs.Cut.{Marked, cut, marked, with_marks}
+use Rattle.plain_machine.specs.Cut.{Marked, cut}
 use Rattle.plain_machine.proofs.RunLaws.{run-done, run-unfetched, run-zero}
 use Rattle.fragment.specs.Parts.{Parts}
 use Rattle.fragment.specs.Build.{block_of, built, has_word, size_at, words_at}
 use Rattle.engine.proofs.KeptCode.{holds-none}
-use Rattle.block_ledger.specs.Ledger.{Ledger, wants_room, flushed, all_offered}
+use Rattle.block_ledger.specs.Ledger.{wants_room, all_offered}
 use Rattle.block_ledger.specs.Traced.{Scheme, Trace, traced, after_word, built_in, on_ledger, with_block, block_at}
 use Rattle.block_ledger.specs.Traced as tr
 use Rattle.block_ledger.proofs.Room.{room, room-is-made}

@@ -1,6 +1,5 @@
 -- The end of a run.
-use Rattle.std.proofs.Common.{◌≡◌, ℕ, suc, ◌+◌, Bool, true, false, List, [], ◌∷◌, ◌++◌, drop, length, map, Option, Some, None, refl, sym, ◌∙◌, ap, subst, arith, append_assoc}
-use Rattle.std.specs.Prelude.{slice_get}
+use Rattle.std.proofs.Common.{◌≡◌, ℕ, ◌+◌, Bool, List, [], ◌∷◌, ◌++◌, length, Option, Some, None, refl, sym, ◌∙◌, ap, subst, arith, append_assoc}
 use Rattle.std.specs.Option.{option_to_list}
 use Rattle.std.specs.Ordering.{nat_cmp}
 use Rattle.std.specs.FinMap as fin
@@ -13,21 +12,20 @@ use Rattle.probe_tools.proofs.Counting.{rows_more}
 use Rattle.plain_machine.specs.declared.ends.End.{End}
 use Rattle.plain_machine.specs.declared.io.Asked.{Asked}
 use Rattle.plain_machine.specs.Region.{Area}
-use Rattle.plain_machine.specs.Machine.{Setting, State, Guest, base_at, file_at, start}
+use Rattle.plain_machine.specs.Machine.{Setting, State, Guest, file_at}
 use Rattle.plain_machine.specs.Run.{Run, run, plain, run_of, run_from}
 use Rattle.plain_machine.specs.Cut.{Marked, cut, marked, with_marks, over}
 use Rattle.plain_machine.specs.Own.{own_answers}
 use Rattle.plain_machine.specs.Events.{events}
-use Rattle.plain_machine.specs.Plain.{IsPlainRun}
 use Rattle.report.specs.Rows.{Rows}
 use Rattle.engine.specs.Seeing.{counting, with_events}
 use Rattle.block_ledger.specs.Ledger.{Ledger, attached, segment_of, new_ledger}
-use Rattle.block_ledger.specs.Traced.{Scheme, Trace, all_attached, codes_of, first_trace, if_started, run_trace, started, started_at, traced, unit_blocks}
+use Rattle.block_ledger.specs.Traced.{Scheme, Trace, all_attached, codes_of, first_trace, if_started, started, started_at, traced, unit_blocks}
 use Rattle.guest_proc.specs.declared.stop.Stop.TheVariants as stop
 use Rattle.guest_proc.specs.Process.{Comes, Process, nothing, trace}
 use Rattle.map_laws.specs.Came.{Came, Goes, attached_from, done}
 use Rattle.map_laws.specs.Own.{answers_to}
-use Rattle.map_laws.specs.Whole.{EndIsWhole, IsFirst, IsRunBy}
+use Rattle.map_laws.specs.Whole.{EndIsWhole, IsFirst}
 use Rattle.map_laws.proofs.Answering.{came-more}
 use Rattle.map_laws.proofs.Calling.{calls_of, own-calls, states_of, traced-calls}
 use Rattle.map_laws.proofs.Stopping.{comes-ended}

@@ -1,5 +1,5 @@
 -- How a full pool is answered.
-use Rattle.std.specs.Prelude.{◌≡◌, ℕ, ◌<◌, ◌%◌, Some, None}
+use Rattle.std.specs.Prelude.{◌≡◌, ◌<◌, ◌%◌, None}
 use Rattle.std.specs.FinMap as fin
 use Rattle.plain_machine.specs.Memory.{IsMemory}
 use Rattle.block_ledger.specs.Ledger.{flushed, all_offered}
