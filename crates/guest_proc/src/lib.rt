@@ -2,7 +2,8 @@
 //!
 //! It stands on `engine`, `guest_calls` and `elf_map`, and goes over any `Book` of `block_book` and any `Maker` of
 //! `block_build`. The layer above uses: a run goes on by the plain machine and by the ledger to the stop that it names
-//! (`RanOn`), and what it takes to want memory.
+//! (`RanOn`), and what it takes to want memory; a call on a module or a unit puts the process to the state and the ledger
+//! that it names.
 #![tactic(auto)]
 
 mod begin;

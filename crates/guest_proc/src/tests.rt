@@ -1,4 +1,5 @@
-ghost use Rattle.std.specs.Prelude.{◌≡◌, ◌<◌, ◌≤◌, ◌*◌, ◌+◌, length};
+ghost use Rattle.std.specs.Prelude.{◌≡◌, ◌<◌, ◌≤◌, true, is_some, OnOk};
+ghost use Rattle.std.specs.FinMap as fin;
 ghost use Rattle.plain_machine.specs.Program.{base_of, top_of};
 ghost use Rattle.block_ledger.specs.Traced.{codes_of};
 ghost use Rattle.region_laws.specs.Standing.{AllStand, AreThere};
@@ -47,6 +48,18 @@ fn elf_of(alloc: Global, addr: u32, words: &[u32]) -> Result<Elf, Fail> {
     Ok(Elf::read(alloc, &file)?)
 }
 
+fn setup_of(alloc: Global, tool: Tool) -> Result<Setup, AllocError> {
+    Ok(Setup {
+        isa: Isa::I,
+        tool,
+        max: 16,
+        fuel: 100_000,
+        pool: 2,
+        stack: 4096,
+        input: Blob::of(alloc, &[])?,
+    })
+}
+
 // A guest of this program, which is placed as module 0.
 fn guest_of(
     rt: &impl Abort,
@@ -54,22 +67,22 @@ fn guest_of(
     tool: Tool,
     elf: &Elf,
 ) -> Result<Proc<CodeBook>, AllocError> {
-    let setup = Setup {
-        isa: Isa::I,
-        tool,
-        max: 16,
-        fuel: 100_000,
-        pool: 16,
-        stack: 4096,
-        input: Blob::of(alloc, &[])?,
-    };
-    let mut guest = Proc::start(alloc, setup, CodeBook::new(alloc)?)?;
+    let mut guest = Proc::start(alloc, setup_of(alloc, tool)?, CodeBook::new(alloc)?)?;
     assert!(rt; guest.place(0, 0, elf, 0)?);
     Ok(guest)
 }
 
-// What a guest of these words comes to, where a full pool is flushed, with its counts of blocks begun, reused, built and
-// linked.
+// Runs on over a full pool, which is flushed once.
+fn run_on<L: Ledger>(guest: &mut Proc<CodeBook>, steps: &mut Steps<L>) -> Result<Stop, Fail> {
+    let stop = guest.run(steps)?;
+    if stop != Stop::PoolFull {
+        return Ok(stop);
+    }
+    guest.flush();
+    Ok(guest.run(steps)?)
+}
+
+// What a guest of these words comes to, with its counts of blocks begun, reused, built and linked.
 fn counts_of<L: Ledger>(
     rt: &impl Abort,
     alloc: Global,
@@ -84,13 +97,7 @@ fn counts_of<L: Ledger>(
     let elf = elf_of(alloc, CODE, words)?;
     let mut guest = guest_of(rt, alloc, tool, &elf)?;
     let mut steps = Steps::<L>::of(blank);
-    let mut stop = guest.run(&mut steps)?;
-    for _ in 0..10u8 {
-        if stop == Stop::PoolFull {
-            guest.flush();
-            stop = guest.run(&mut steps)?;
-        }
-    }
+    let stop = run_on(&mut guest, &mut steps)?;
     let counts = guest.counts();
     let (output, _) = guest.finish();
     assert!(rt; output.items().is_empty());
@@ -110,8 +117,8 @@ fn told_of(
     counts_of::<Brand>(rt, alloc, tool, words, Blank::new(1))
 }
 
-// A countdown from 1000; a guest that overwrites its own next instruction; a call with its return; and two rounds of 40
-// blocks, for which the pool has no room.
+// A countdown from 1000; a guest that overwrites its own next instruction; and a call with its return. The pool has room
+// for two blocks.
 #[test]
 fn blocks_are_kept_linked_and_withdrawn(rt: HostRuntime) -> Result<(), Fail> {
     let alloc = rt.alloc();
@@ -131,18 +138,11 @@ fn blocks_are_kept_linked_and_withdrawn(rt: HostRuntime) -> Result<(), Fail> {
         0x0000_0073,
     ];
     let calls = [0x00c0_00ef, 0x05d0_0893, 0x0000_0073, 0x0000_8067];
-    let mut rounds = [0x0040_006f; 44];
-    rounds[0] = 0x0020_0293;
-    rounds[40] = 0xfff2_8293;
-    rounds[41] = 0xf602_90e3;
-    rounds[42] = 0x05d0_0893;
-    rounds[43] = 0x0000_0073;
     let end = Stop::Ended(End::Exit(0));
     for (tool, words, counts) in [
         (Tool::Blocks, countdown.as_slice(), [1001, 0, 3, 997]),
         (Tool::Memory, overwrite.as_slice(), [3, 0, 3, 0]),
         (Tool::Calls, calls.as_slice(), [3, 0, 3, 0]),
-        (Tool::Blocks, rounds.as_slice(), [81, 0, 81, 0]),
     ] {
         let told = told_of(&rt, alloc, tool, words)?;
         assert_eq!(rt; told, (end, counts));
@@ -160,6 +160,7 @@ fn attach_empty(
     requires there { AreThere (codes_of elf.now 0) guest.old.at.mem }
     requires clear { AreClear (codes_of elf.now 0) (ledger_of guest.old.book) }
     requires top { top_of elf.now 0 ≤ 4294967295 }
+    ensures { OnOk result (is_some (fin.get (ledger_of guest.new.book).segments 0) ≡ true) }
 {
     assert!(rt; elf.code_count() == 1);
     let image = image_of(&elf.code(0)?, 0)?;
@@ -186,69 +187,84 @@ fn take_away(guest: &mut Proc<CodeBook>, module: u32, elf: &Elf) -> Result<(), F
     Ok(())
 }
 
-// A guest asks for module 1, which is placed, and taken away again.
-fn maps_another<L: Ledger>(rt: &impl Abort, alloc: Global, blank: Blank) -> Result<(), Fail>
+// A module is placed, and taken away again.
+fn comes_and_goes(guest: &mut Proc<CodeBook>, module: u32, elf: &Elf) -> Result<(), Fail>
+    requires { «module» < 1073741824 }
+{
+    if !guest.place(module, 1, elf, 0)? {
+        return Err(Fail::from("the file is refused"));
+    }
+    take_away(guest, module, elf)
+}
+
+// A guest asks for module 1, which comes and goes, and it ends with the answer.
+fn maps_another<L: Ledger>(
+    rt: &impl Abort,
+    guest: &mut Proc<CodeBook>,
+    other: &Elf,
+    steps: &mut Steps<L>,
+) -> Result<Stop, Fail> {
+    assert_eq!(rt; guest.run(steps)?, Stop::Map(1));
+    comes_and_goes(guest, 1, other)?;
+    guest.answer(7);
+    Ok(guest.run(steps)?)
+}
+
+// What it comes to.
+fn told_of_another<L: Ledger>(
+    rt: &impl Abort,
+    alloc: Global,
+    words: &[u32],
+    blank: Blank,
+) -> Result<Stop, Fail>
     requires name { blank.name ≡ L.name }
     requires parts { blank.parts ≡ L.parts }
     requires owned { 0 < blank.parts }
 {
-    let own = elf_of(
-        alloc,
-        CODE,
-        &[
-            0x3e80_0893,
-            0x0010_0513,
-            0x0000_0073,
-            0x05d0_0893,
-            0x0000_0073,
-        ],
-    )?;
-    let other = elf_of(alloc, OTHER, &[0x0000_0073])?;
+    let own = elf_of(alloc, CODE, words)?;
+    let other = elf_of(alloc, OTHER, &[0x73])?;
     let mut guest = guest_of(rt, alloc, Tool::Blocks, &own)?;
     let mut steps = Steps::<L>::of(blank);
-    assert_eq!(rt; guest.run(&mut steps)?, Stop::Map(1));
-    assert!(rt; guest.place(1, 1, &other, 0)?);
-    take_away(&mut guest, 1, &other)?;
-    assert!(rt; !guest.at.io.is_mapped(1) && guest.at.mem.code_at(OTHER).is_none());
-    guest.answer(7);
-    let stop = guest.run(&mut steps)?;
-    assert_eq!(rt; stop, Stop::Ended(End::Exit(7)));
-    Ok(())
+    maps_another(rt, &mut guest, &other, &mut steps)
 }
 
 #[test]
 fn a_module_comes_and_goes(rt: HostRuntime) -> Result<(), Fail> {
-    maps_another::<Brand>(&rt, rt.alloc(), Blank::new(1))
+    let words = [
+        0x3e80_0893,
+        0x0010_0513,
+        0x0000_0073,
+        0x05d0_0893,
+        0x0000_0073,
+    ];
+    let stop = told_of_another::<Brand>(&rt, rt.alloc(), words.as_slice(), Blank::new(1))?;
+    assert_eq!(rt; stop, Stop::Ended(End::Exit(7)));
+    Ok(())
 }
 
-// What the blocks of a countdown are that its unit could gain.
-fn offers<L: Ledger>(rt: &impl Abort, alloc: Global, blank: Blank) -> Result<(), Fail>
-    requires name { blank.name ≡ L.name }
-    requires parts { blank.parts ≡ L.parts }
-    requires owned { 0 < blank.parts }
+// A file is placed as the program, with an empty unit.
+fn place_with_unit(
+    rt: &impl Abort,
+    alloc: Global,
+    guest: &mut Proc<CodeBook>,
+    elf: &Elf,
+) -> Result<(), Fail>
+    ensures { OnOk result (is_some (fin.get (ledger_of guest.new.book).segments 0) ≡ true) }
 {
-    let elf = elf_of(alloc, CODE, &[0x05d0_0893, 0x0000_0073])?;
-    let setup = Setup {
-        isa: Isa::I,
-        tool: Tool::Blocks,
-        max: 16,
-        fuel: 100_000,
-        pool: 16,
-        stack: 4096,
-        input: Blob::of(alloc, &[])?,
-    };
-    let mut guest = Proc::start(alloc, setup, CodeBook::new(alloc)?)?;
-    assert!(rt; guest.place(0, 0, &elf, 0)?);
-    attach_empty(rt, alloc, &mut guest, &elf)?;
-    let mut steps = Steps::<L>::of(blank);
-    assert_eq!(rt; guest.run(&mut steps)?, Stop::Ended(End::Exit(0)));
-    assert_eq!(rt; guest.segments()?.as_slice(), [0].as_slice());
-    let blocks = guest.offer(0, 0)?;
-    assert_eq!(rt; blocks.len(), 1);
-    Ok(())
+    if !guest.place(0, 0, elf, 0)? {
+        return Err(Fail::from("the file is refused"));
+    }
+    attach_empty(rt, alloc, guest, elf)
 }
 
 #[test]
 fn a_unit_is_attached(rt: HostRuntime) -> Result<(), Fail> {
-    offers::<Brand>(&rt, rt.alloc(), Blank::new(1))
+    let alloc = rt.alloc();
+    let elf = elf_of(alloc, CODE, &[0x73])?;
+    let mut guest = Proc::start(alloc, setup_of(alloc, Tool::Blocks)?, CodeBook::new(alloc)?)?;
+    place_with_unit(&rt, alloc, &mut guest, &elf)?;
+    assert_eq!(rt; guest.segments()?.as_slice(), [0].as_slice());
+    let blocks = guest.offer(0, 0)?;
+    assert!(rt; blocks.is_empty());
+    Ok(())
 }
