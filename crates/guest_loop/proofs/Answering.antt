@@ -1,10 +1,8 @@
 -- How the calls of a run are answered.
-use Rattle.std.proofs.Common.{◌≡◌, ℕ, zero, suc, ◌+◌, ◌/◌, ◌<◌, ◌≤◌, ◌==◌, ◌&&◌, Bool, true, false, List, [], ◌∷◌, ◌++◌, length, Option, Some, None, refl, sym, ◌∙◌, ap, subst, arith, inl, inr, append_assoc}
-use Rattle.std.specs.Prelude.{All, find, if◌then◌else◌, is_some, slice_get, slice_set}
+use Rattle.std.proofs.Common.{◌≡◌, ℕ, zero, suc, ◌/◌, ◌<◌, ◌==◌, ◌&&◌, Bool, true, false, List, [], ◌∷◌, ◌++◌, length, Option, Some, None, refl, sym, ◌∙◌, ap, subst, arith, inl, inr, append_assoc}
+use Rattle.std.specs.Prelude.{find, if◌then◌else◌, is_some, slice_get}
 use Rattle.std.specs.Option.{option_map, option_to_list}
 use Rattle.std.specs.FinMap as fin
-use Rattle.std.proofs.lemmas.Bool.{cases_Bool}
-use Rattle.std.proofs.lemmas.Bool.Decides.{nat_tests}
 use Rattle.std.proofs.lemmas.List.{append-nil}
 use Rattle.std.proofs.lemmas.List.Elements.{All-append}
 use Rattle.std.proofs.lemmas.Option.{same_Some, slice_get_past}
@@ -14,13 +12,12 @@ use Rattle.plain_machine.specs.declared.io.Asked.TheVariants as asked
 use Rattle.plain_machine.specs.declared.io.Mapping.{Mapping}
 use Rattle.plain_machine.specs.Calls.{is_module, minus}
 use Rattle.plain_machine.specs.Program.{Program}
-use Rattle.plain_machine.specs.Machine.{Action, Maps, Replaces, Setting, Unmaps, after_replace, base_at, is_below, program_in, with_result}
+use Rattle.plain_machine.specs.Machine.{Action, Maps, Replaces, Setting, Unmaps, after_replace, is_below, program_in, with_result}
 use Rattle.plain_machine.specs.Own.{replaced}
-use Rattle.block_ledger.specs.Ledger.{Ledger, Segment, all_offered, offered, unmapped}
-use Rattle.block_ledger.specs.Traced.{Scheme, all_attached, codes_of, traced}
+use Rattle.block_ledger.specs.Ledger.{Segment, all_offered, offered, unmapped}
+use Rattle.block_ledger.specs.Traced.{Scheme, codes_of, traced}
 use Rattle.guest_proc.specs.declared.stop.Stop.{Stop}
 use Rattle.guest_proc.specs.declared.stop.Stop.TheVariants as stop
-use Rattle.guest_proc.specs.Kept.{image_at}
 use Rattle.guest_proc.specs.Maps.{Places, put_to, unplaced_state}
 use Rattle.guest_proc.specs.Process.{Process, RanOn, trace}
 use Rattle.map_laws.specs.Came.{Attaches, Goes, Waits}
@@ -30,10 +27,10 @@ use Rattle.map_laws.proofs.Stopping.{AsksNothing, before-nothing}
 use Rattle.map_laws.proofs.Whole.{all-taken}
 use Rattle.guest_loop.specs.Answer.{Answers, Replies, RepliesTo, RunsTo}
 use Rattle.guest_loop.specs.Attach.{AttachesAll, empty_units}
-use Rattle.guest_loop.specs.Hosted.{FileStands, IsHosted}
+use Rattle.guest_loop.specs.Hosted.{IsHosted}
 use Rattle.guest_loop.specs.Plain.{AreEmpty, one_module}
 use Rattle.guest_loop.specs.Room.{AreAttached, end_in, is_full}
-use Rattle.guest_loop.proofs.Hosting.{AreOwn, file-stands}
+use Rattle.guest_loop.proofs.Hosting.{AreOwn}
 use Rattle.guest_loop.proofs.Rooming.{attached-still, image-to}
 
 -- ---- units

@@ -1,6 +1,6 @@
 -- The one module of a guest, in its process.
-use Rattle.std.proofs.Common.{◌≡◌, ℕ, zero, suc, ◌+◌, ◌/◌, ◌<◌, ◌≤◌, ◌==◌, ◌||◌, Bool, true, false, cond, List, [], ◌∷◌, ◌++◌, length, Option, Some, None, refl, sym, ◌∙◌, ap, subst, arith, inl, inr}
-use Rattle.std.specs.Prelude.{find, is_some, not, slice_get}
+use Rattle.std.proofs.Common.{◌≡◌, ℕ, zero, suc, ◌+◌, ◌/◌, ◌<◌, ◌≤◌, ◌==◌, Bool, true, false, cond, List, [], ◌∷◌, ◌++◌, length, Option, Some, None, refl, sym, ◌∙◌, ap, subst, arith, inl, inr}
+use Rattle.std.specs.Prelude.{find, not, slice_get}
 use Rattle.std.specs.List.{list_any}
 use Rattle.std.specs.Option.{option_map}
 use Rattle.std.specs.Ordering.{nat_cmp, eq_by_cmp}
@@ -8,12 +8,11 @@ use Rattle.std.specs.FinMap as fin
 use Rattle.std.specs.FinSet as set
 use Rattle.std.proofs.lemmas.Bool.{cases_Bool}
 use Rattle.std.proofs.lemmas.Bool.Decides.{nat_tests}
-use Rattle.std.proofs.lemmas.Option.{same_Some, slice_get_past}
+use Rattle.std.proofs.lemmas.Option.{same_Some}
 use Rattle.cc_base.specs.Image.{Code}
 use Rattle.rv_decode.specs.declared.ins.Isa.{Isa}
-use Rattle.plain_machine.specs.declared.io.Heap.{Heap}
 use Rattle.plain_machine.specs.declared.io.Mapping.{Mapping}
-use Rattle.plain_machine.specs.Memory.{Memory, without_first}
+use Rattle.plain_machine.specs.Memory.{without_first}
 use Rattle.plain_machine.specs.Calls.{is_mapped, is_module}
 use Rattle.plain_machine.specs.Program.{Program, Segment as FileSegment, base_of, top_of}
 use Rattle.plain_machine.specs.Machine.{with_result}

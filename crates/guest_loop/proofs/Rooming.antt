@@ -1,6 +1,6 @@
 -- Room is made, and the run goes on.
-use Rattle.std.proofs.Common.{◌≡◌, ℕ, ◌+◌, ◌*◌, ◌/◌, ◌<◌, ◌%◌, ◌||◌, ◌⊎◌, Bool, true, false, cond, List, [], ◌∷◌, drop, length, slice_index_or, Option, Some, None, Result, Ok, Err, refl, sym, ◌∙◌, ap, subst, arith, inl, inr}
-use Rattle.std.specs.Prelude.{is_some, IsErr, OnOk}
+use Rattle.std.proofs.Common.{◌≡◌, ℕ, ◌+◌, ◌/◌, ◌<◌, ◌%◌, ◌||◌, Bool, true, false, cond, List, [], ◌∷◌, drop, length, slice_index_or, Option, Some, None, Result, Ok, refl, sym, ◌∙◌, ap, subst, arith, inl, inr}
+use Rattle.std.specs.Prelude.{is_some, IsErr}
 use Rattle.std.specs.List.{list_any}
 use Rattle.std.specs.Option.{option_map}
 use Rattle.std.specs.Ordering.{nat_cmp, eq_by_cmp}
@@ -13,9 +13,9 @@ use Rattle.std.proofs.Math.Seq.{drop-length}
 use Rattle.cc_base.specs.Image.{Code}
 use Rattle.plain_machine.specs.declared.ends.End.{End}
 use Rattle.plain_machine.specs.Memory.{IsMemory}
-use Rattle.block_ledger.specs.Ledger.{Ledger, Segment, candidates, offered, offered_to, with_offered, all_offered, flushed, segment_of}
+use Rattle.block_ledger.specs.Ledger.{Ledger, Segment, candidates, offered, offered_to, with_offered, all_offered, segment_of}
 use Rattle.block_ledger.specs.Traced.{Scheme}
-use Rattle.block_ledger.proofs.Gets.{got-insert, got-kept, tied}
+use Rattle.block_ledger.proofs.Gets.{got-insert, tied}
 use Rattle.guest_proc.specs.declared.stop.Stop.{Stop}
 use Rattle.guest_proc.specs.declared.stop.Stop.TheVariants as stop
 use Rattle.guest_proc.specs.Kept.{Keeps, image_at}

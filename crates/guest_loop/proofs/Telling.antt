@@ -1,10 +1,8 @@
 -- The whole run of a guest, from its start.
-use Rattle.std.proofs.Common.{◌≡◌, ℕ, List, [], ◌∷◌, ◌++◌, ◌⊎◌, Option, Some, None, Result, Ok, Err, refl, sym, ◌∙◌, ap, subst, inl, inr}
+use Rattle.std.proofs.Common.{◌≡◌, ℕ, List, [], ◌∷◌, ◌++◌, Option, Some, None, Result, Ok, Err, refl, sym, ◌∙◌, ap, subst, inl, inr}
 use Rattle.std.specs.Prelude.{slice_get}
-use Rattle.std.specs.Option.{option_to_list}
 use Rattle.std.specs.Ordering.{nat_cmp}
 use Rattle.std.specs.FinMap as fin
-use Rattle.probe_tools.specs.declared.tool.Tool.{Tool}
 use Rattle.probe_tools.specs.Rows.{AreRows, Counts}
 use Rattle.cc_base.specs.Image.{Code}
 use Rattle.plain_machine.specs.declared.access.MemErr.{MemErr}
@@ -12,7 +10,7 @@ use Rattle.plain_machine.specs.declared.ends.End.{End}
 use Rattle.plain_machine.specs.declared.ends.End.TheVariants as ends
 use Rattle.plain_machine.specs.Memory.{Memory}
 use Rattle.plain_machine.specs.Program.{Program, entry_of, placed, top_of}
-use Rattle.plain_machine.specs.Machine.{Guest, Setting, State, first_state, stack_of, start, start_at}
+use Rattle.plain_machine.specs.Machine.{Guest, Setting, stack_of, start, start_at}
 use Rattle.plain_machine.specs.Run.{Run, plain, run_from, run_of, unstarted}
 use Rattle.plain_machine.specs.Cut.{cut}
 use Rattle.plain_machine.specs.Own.{own_answers}
@@ -21,7 +19,7 @@ use Rattle.plain_machine.specs.Plain.{IsPlainRun}
 use Rattle.report.specs.Rows.{Rows}
 use Rattle.block_ledger.specs.Ledger.{new_ledger}
 use Rattle.block_ledger.specs.Ledger.{Counts as Counted}
-use Rattle.block_ledger.specs.Traced.{Scheme, Trace, all_attached, codes_of, first_trace, if_started, run_trace, started, started_at, traced}
+use Rattle.block_ledger.specs.Traced.{all_attached, codes_of, first_trace, if_started, started, started_at, traced}
 use Rattle.guest_proc.specs.declared.running.Setup.{Setup}
 use Rattle.guest_proc.specs.Maps.{CannotEnter, entered_state, put_to}
 use Rattle.guest_proc.specs.Process.{Process}

@@ -1,8 +1,8 @@
-use Rattle.std.proofs.Common.{◌≡◌, ◌∷◌, [], Some, refl, sym, subst}
+use Rattle.std.proofs.Common.{◌∷◌, [], Some, refl, sym, subst}
 use Rattle.guest_proc.specs.Kept.{StopsWell, process_of, scheme_of}
 use Rattle.guest_loop.specs.Answer.{RepliesTo}
 use Rattle.guest_loop.specs.Plain.{one_module}
-use Rattle.guest_loop.proofs.Rooming.{not-ended, not-full}
+use Rattle.guest_loop.proofs.Rooming.{not-ended}
 use Rattle.guest_loop.proofs.answer.answer.Goals as goal
 
 pub unreachable-requires : goal.unreachable-requires

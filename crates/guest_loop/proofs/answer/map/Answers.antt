@@ -1,5 +1,4 @@
-use Rattle.std.proofs.Common.{◌≡◌, ◌≤◌, ◌++◌, ◌∷◌, [], ◌||◌, true, false, length, refl, sym, ◌∙◌, ap, subst}
-use Rattle.plain_machine.specs.declared.io.Asked.TheVariants as asked
+use Rattle.std.proofs.Common.{◌≡◌, true, false, ◌∙◌, ap, subst}
 use Rattle.plain_machine.specs.Calls.{is_mapped}
 use Rattle.plain_machine.specs.Machine.{with_result}
 use Rattle.block_ledger.specs.Traced.{codes_of}

@@ -1,8 +1,5 @@
-use Rattle.std.proofs.Common.{◌≡◌, ◌∷◌, [], true, false, refl, sym, ◌∙◌, ap}
-use Rattle.std.specs.Prelude.{◌&&◌}
-use Rattle.plain_machine.specs.Machine.{is_below}
+use Rattle.std.proofs.Common.{true, false, refl, sym, ◌∙◌}
 use Rattle.guest_proc.specs.Kept.{process_of, scheme_of}
-use Rattle.guest_loop.specs.Plain.{one_module}
 use Rattle.guest_loop.proofs.Answering.{replace-answered}
 use Rattle.guest_loop.proofs.Hosting.{hosted-result}
 use Rattle.guest_loop.proofs.answer.replace.Goals as goal

@@ -1,4 +1,4 @@
-use Rattle.std.proofs.Common.{◌≡◌, ◌<◌, refl, sym, ◌∙◌, ap, subst, arith, length}
+use Rattle.std.proofs.Common.{refl, ◌∙◌, subst, arith}
 use Rattle.block_ledger.specs.Traced.{codes_of}
 use Rattle.guest_proc.specs.Kept.{process_of, scheme_of}
 use Rattle.guest_loop.specs.Attach.{AttachesOne}

@@ -1,4 +1,4 @@
-use Rattle.std.proofs.Common.{◌≡◌, sym, ◌∙◌}
+use Rattle.std.proofs.Common.{sym, ◌∙◌}
 use Rattle.guest_loop.proofs.Attaching.{count-codes}
 use Rattle.guest_loop.proofs.attach.count_codes.Goals as goal
 

@@ -1,4 +1,3 @@
-use Rattle.std.proofs.Common.{◌≡◌, sym, ◌∙◌, ap, subst, ◌≤◌, arith}
 use Rattle.std.proofs.lemmas.Result.{IfOk-weaker}
 use Rattle.guest_loop.proofs.Attaching.{codes-from, within-codes}
 use Rattle.guest_loop.proofs.attach.image_at.Goals as goal

@@ -1,4 +1,3 @@
-use Rattle.std.proofs.Common.{◌≡◌}
 use Rattle.guest_loop.proofs.Rooming.{no-error}
 use Rattle.guest_loop.proofs.room.make_room.Goals as goal
 

@@ -1,5 +1,4 @@
-use Rattle.std.proofs.Common.{◌≡◌, sym, ◌∙◌, ap, refl, subst}
-use Rattle.guest_proc.specs.Kept.{process_of, scheme_of}
+use Rattle.std.proofs.Common.{◌∙◌}
 use Rattle.guest_loop.proofs.Rooming.{keys-attached, no-error}
 use Rattle.guest_loop.proofs.room.offer_all.Goals as goal
 

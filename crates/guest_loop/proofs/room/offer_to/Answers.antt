@@ -1,5 +1,5 @@
-use Rattle.std.proofs.Common.{◌≡◌, ◌<◌, length, refl, sym, ◌∙◌, ap, arith}
-use Rattle.guest_proc.specs.Kept.{process_of, scheme_of}
+use Rattle.std.proofs.Common.{refl, ◌∙◌, arith}
+use Rattle.guest_proc.specs.Kept.{process_of}
 use Rattle.guest_loop.proofs.Rooming.{offer-first, offers-start, offers-next, offers-end}
 use Rattle.guest_loop.proofs.room.offer_to.Goals as goal
 

@@ -1,4 +1,4 @@
-use Rattle.std.proofs.Common.{◌≡◌, ◌<◌, false, refl, sym, ◌∙◌, ap, subst}
+use Rattle.std.proofs.Common.{◌≡◌, refl, sym, ◌∙◌, subst}
 use Rattle.block_ledger.specs.Traced.{Scheme}
 use Rattle.guest_proc.specs.declared.stop.Stop.TheVariants as stop
 use Rattle.guest_proc.specs.Kept.{process_of, scheme_of}

@@ -1,4 +1,4 @@
-use Rattle.std.proofs.Common.{◌≡◌, ◌<◌, ◌∷◌, [], Some, refl, sym, ◌∙◌, ap, subst}
+use Rattle.std.proofs.Common.{◌≡◌, ◌<◌, ◌∷◌, [], refl, sym, ◌∙◌, subst}
 use Rattle.plain_machine.specs.Machine.{Setting}
 use Rattle.block_ledger.specs.Traced.{Scheme}
 use Rattle.guest_proc.specs.declared.stop.Stop.TheVariants as stop

@@ -1,4 +1,4 @@
-use Rattle.std.proofs.Common.{◌≡◌, true, false, refl, sym, ◌∙◌, ap, subst}
+use Rattle.std.proofs.Common.{true, false, ap, subst}
 use Rattle.block_ledger.specs.Traced.{codes_of}
 use Rattle.guest_proc.specs.Kept.{process_of, scheme_of}
 use Rattle.guest_proc.specs.Maps.{Enters}
