@@ -123,11 +123,15 @@ impl<B: Book> Proc<B> {
         ensures asks { IfOk result (λ stop. StopsWell (Some stop) self.new.at.io) }
         ensures made { OnOk result (AreMade (B.ledger self.old.book).counts.built (B.ledger self.new.book).counts.built steps.old steps.new (M.taken maker.old) (M.taken maker.new)) }
         ensures wants { OnErr result ((self.old.spent ≡ true) ⊎ CameToWant (scheme_of self.old.at self.old.limits) (process_of self.old.at (B.ledger self.old.book))) }
+        ensures spent { self.old.spent ≡ true → IsErr result }
         ensures after { OnErr result (self.new.spent ≡ true) }
         ensures lasts { OnOk result (self.new.spent ≡ self.old.spent) }
         ensures entered { self.new.entered ≡ self.old.entered }
         ensures scheme { scheme_of self.new.at self.new.limits ≡ scheme_of self.old.at self.old.limits }
     {
+        if self.spent {
+            return Err(AllocError);
+        }
         loop {
             if let Some(stop) = self.advance(maker, steps)? {
                 return Ok(stop);
@@ -142,6 +146,7 @@ impl<B: Book> Proc<B> {
         ensures asks { IfOk result (λ stop. StopsWell (Some stop) self.new.at.io) }
         ensures made { OnOk result (AreMade (B.ledger self.old.book).counts.built (B.ledger self.new.book).counts.built steps.old steps.new [] []) }
         ensures wants { OnErr result ((self.old.spent ≡ true) ⊎ CameToWant (scheme_of self.old.at self.old.limits) (process_of self.old.at (B.ledger self.old.book))) }
+        ensures spent { self.old.spent ≡ true → IsErr result }
         ensures after { OnErr result (self.new.spent ≡ true) }
         ensures lasts { OnOk result (self.new.spent ≡ self.old.spent) }
         ensures entered { self.new.entered ≡ self.old.entered }
