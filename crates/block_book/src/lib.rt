@@ -12,7 +12,7 @@ ghost use Rattle.block_ledger.specs.Ledger.{Ledger, Segment, view, is_live, begu
 ghost use Rattle.block_ledger.specs.Traced.{range_of};
 ghost use Rattle.block_book.specs.Clauses.{IsShort, IsClear, blocks_of, region_of};
 
-use cc_base::Span;
+use cc_base::{Image, Span};
 use fragment::Fragment;
 use std::alloc::{AllocError, Global};
 use std::sync::Arc;
@@ -78,6 +78,10 @@ pub trait Book {
     /// The numbers of the attached segments, in rising order.
     fn segments(&self, alloc: Global) -> Result<Vec<u32>, AllocError>
         ensures { IfOk result (λ numbers. numbers.items ≡ fin.keys (ledger self.now).segments) };
+
+    /// The images of the attached segments, in the order of their numbers. Nothing is copied.
+    fn images(&self, alloc: Global) -> Result<Vec<Image>, AllocError>
+        ensures { IfOk result (λ images. images.items ≡ map (λ s. s.image) (fin.values (ledger self.now).segments)) };
 
     /// The candidates of an attached segment are offered to its unit.
     fn offer(&mut self, alloc: Global, segment: u32) -> Result<Vec<Fragment>, AllocError>

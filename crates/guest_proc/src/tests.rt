@@ -264,6 +264,7 @@ fn a_unit_is_attached(rt: HostRuntime) -> Result<(), Fail> {
     let mut guest = Proc::start(alloc, setup_of(alloc, Tool::Blocks)?, CodeBook::new(alloc)?)?;
     place_with_unit(&rt, alloc, &mut guest, &elf)?;
     assert_eq!(rt; guest.segments()?.as_slice(), [0].as_slice());
+    assert_eq!(rt; guest.images()?.len(), 1);
     let blocks = guest.offer(0, 0)?;
     assert!(rt; blocks.is_empty());
     Ok(())

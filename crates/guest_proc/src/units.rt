@@ -12,6 +12,7 @@ ghost use Rattle.guest_proc.specs.Maps.{put_to};
 
 use crate::process::Proc;
 use block_book::Book;
+use cc_base::Image;
 use fragment::Fragment;
 use std::alloc::AllocError;
 use std::sync::Arc;
@@ -79,6 +80,17 @@ impl<B: Book> Proc<B> {
             return Err(AllocError);
         }
         self.book.segments(self.alloc)
+    }
+
+    /// The images of the attached segments, in the order of their numbers. The bytes are shared, not copied.
+    pub fn images(&self) -> Result<Vec<Image>, AllocError>
+        ensures images { IfOk result (λ images. images.items ≡ map (λ s. s.image) (fin.values (B.ledger self.now.book).segments)) }
+        ensures spent { self.now.spent ≡ true → IsErr result }
+    {
+        if self.spent {
+            return Err(AllocError);
+        }
+        self.book.images(self.alloc)
     }
 
     /// Empties the private blocks, with their links. It takes no memory.

@@ -66,6 +66,9 @@ module _ {X : Type 0} where
   pub keys-sorted : (es : List (ℕ × X)) → IsStrictlySortedBy nat_cmp (keys_of es) → fin.keys (fin.from_entries {R = nat_cmp} es) ≡ map (λ e. e.0) es
   keys-sorted es sorted = ap (map (λ e. e.0)) (entries-sorted es sorted)
 
+  pub values-sorted : (es : List (ℕ × X)) → IsStrictlySortedBy nat_cmp (keys_of es) → fin.values (fin.from_entries {R = nat_cmp} es) ≡ map (λ e. e.1) es
+  values-sorted es sorted = ap (map (λ e. e.1)) (entries-sorted es sorted)
+
 pub neither : (x y f c : Bool) → x ≡ f → f ≡ false → y ≡ c → not c ≡ (not x && not y)
 neither x y f c a b d = sym (ap (λ z. not z && not y) (a ∙ b) ∙ ap not d)
 

@@ -6,6 +6,7 @@ ghost use Rattle.block_ledger.specs.Ledger.{is_candidate};
 ghost use Rattle.merge_pass.specs.Segments.{segment_for, with_marks};
 
 use crate::words::{is_within, spells, view_of};
+use cc_base::Image;
 use fragment::Fragment;
 use std::alloc::{AllocError, Global};
 use std::collections::BTreeSet;
@@ -43,6 +44,13 @@ impl Attached {
         })
     }
 
+    /// Its image. The bytes are shared, not copied.
+    pub fn image(&self) -> Result<Image, AllocError>
+        ensures { IfOk result (λ i. i ≡ self.now.image) }
+    {
+        share_image(self.unit.image())
+    }
+
     /// How many blocks were offered to it.
     pub fn offered_count(&self) -> usize
         ensures { result ≡ set.len self.now.offered }
@@ -77,6 +85,16 @@ impl Attached {
         self.offered = more;
         Ok(())
     }
+}
+
+// The same image.
+fn share_image(image: &Image) -> Result<Image, AllocError>
+    ensures { IfOk result (λ i. i ≡ image.now) }
+{
+    Ok(Image {
+        start: image.start,
+        bytes: Arc::try_clone(&image.bytes)?,
+    })
 }
 
 // The same addresses.

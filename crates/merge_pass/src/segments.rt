@@ -1,9 +1,10 @@
-ghost use Rattle.std.specs.Prelude.{◌≡◌, ◌<◌, ◌/◌, ◌==◌, not, option_map, IfOk, OnOk, OnErr};
+ghost use Rattle.std.specs.Prelude.{◌≡◌, ◌<◌, ◌/◌, ◌==◌, not, option_map, map, IfOk, OnOk, OnErr};
 ghost use Rattle.std.specs.FinMap as fin;
-ghost use Rattle.std.specs.BTreeMap.{keys};
+ghost use Rattle.std.specs.BTreeMap.{keys, values};
 ghost use Rattle.merge_pass.specs.Segments.{marked};
 
 use crate::attached::Attached;
+use cc_base::Image;
 use std::alloc::{AllocError, Global};
 use std::collections::BTreeMap;
 use std::marker::Model;
@@ -51,6 +52,14 @@ impl Segments {
     {
         let _ = self.map.len();
         numbers_in(alloc, &self.map)
+    }
+
+    /// Their images, in the order of the numbers. The bytes are shared, not copied.
+    pub fn images(&self, alloc: Global) -> Result<Vec<Image>, AllocError>
+        ensures { IfOk result (λ v. v.items ≡ map (λ s. s.image) (fin.values self.now)) }
+    {
+        let _ = self.map.len();
+        images_in(alloc, &self.map)
     }
 
     /// The segment of this number is attached. The only error is want of memory.
@@ -101,4 +110,15 @@ fn numbers_in(alloc: Global, map: &BTreeMap<u32, Attached>) -> Result<Vec<u32>, 
         numbers.push(*number)?;
     }
     Ok(numbers)
+}
+
+// The images of a map's segments.
+fn images_in(alloc: Global, segments: &BTreeMap<u32, Attached>) -> Result<Vec<Image>, AllocError>
+    ensures { IfOk result (λ v. v.items ≡ map (λ s. s.image) (values segments.now)) }
+{
+    let mut images = Vec::new(alloc);
+    for segment in segments.values() {
+        images.push(segment.image()?)?;
+    }
+    Ok(images)
 }

@@ -50,5 +50,6 @@ fn blocks_of_the_image_are_wanted_once(rt: HostRuntime) -> Result<(), Fail> {
     }
     segments.remove_module(1);
     assert_eq!(rt; segments.numbers(alloc)?.as_slice(), [8].as_slice());
+    assert_eq!(rt; segments.images(alloc)?.len(), 1);
     Ok(())
 }
