@@ -1,3 +1,4 @@
 pub mod Ledger
+pub mod Requests
 pub mod Traced
 pub mod Laws

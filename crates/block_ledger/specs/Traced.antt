@@ -14,7 +14,6 @@ use Rattle.plain_machine.specs.declared.access.Access.{Access}
 use Rattle.plain_machine.specs.declared.access.MemErr.{MemErr}
 use Rattle.plain_machine.specs.declared.cpu.Done.{Done}
 use Rattle.plain_machine.specs.declared.cpu.Done.TheVariants as done
-use Rattle.plain_machine.specs.declared.io.Asked.{Asked}
 use Rattle.plain_machine.specs.declared.io.Asked.TheVariants as asked
 use Rattle.plain_machine.specs.Memory.{Memory, fetched, code_at, code_of}
 use Rattle.plain_machine.specs.Step.{Outcome, step}
@@ -29,6 +28,7 @@ use Rattle.fragment.specs.Exits.{exits_of}
 use Rattle.fragment.specs.declared.Exit.{Exit}
 use Rattle.fragment.specs.declared.Exit.TheVariants.{Direct, Indirect, Asks, Stop}
 use Rattle.block_ledger.specs.Ledger.{Ledger, Blocks, begun, left_by, written, attached, unmapped, flushed, all_offered, wants_room, segment_of, new_ledger}
+use Rattle.block_ledger.specs.Requests.{Asking, Request, AsksFile, MakesBe, asked_at, offers, partings, segments_of, unit_asks}
 
 -- how a guest's blocks are made and kept: for this tool, of at most so many instructions, and at most so many private ones
 pub record Scheme : Type 0 where
@@ -42,11 +42,15 @@ pub record Trace : Type 0 where
   pub maps : List ℕ
   -- the addresses of the units that are still to be attached
   pub units : List (List ℕ)
-  -- the map calls that were made
-  pub calls : List Asked
+  -- what was asked of the files and units that are shared
+  pub requests : List Asking
 
 abbrev pub on_ledger : (Ledger → Ledger) → Trace → Trace
 on_ledger f t = record t { ledger = f t.ledger }
+
+-- one more request is made
+abbrev pub asking : Request → Trace → Trace
+asking r t = record t { requests = t.requests ++ asked_at t.ledger.counts.blocks r ∷ [] }
 
 -- ---- how an instruction leaves its block
 
@@ -76,6 +80,15 @@ exit_by exits (done.Fault kind) = None
 abbrev pub with_block : Scheme → Option Parts → Ledger → Ledger
 with_block scheme None led = led
 with_block scheme (Some f) led = begun f (if wants_room scheme.pool led f.address then flushed (all_offered (fin.keys led.segments) led) else led)
+
+-- what is offered then
+abbrev pub room_asks : Scheme → Option Parts → Ledger → List Asking
+room_asks scheme None led = []
+room_asks scheme (Some f) led = if wants_room scheme.pool led f.address then offers (fin.keys led.segments) led else []
+
+-- the same of a trace
+abbrev pub beginning : Scheme → Option Parts → Trace → Trace
+beginning scheme f t = record t { ledger = with_block scheme f t.ledger; requests = t.requests ++ room_asks scheme f t.ledger }
 
 abbrev pub built_in : Option Code → ℕ → Isa → Tool → ℕ → Option Parts
 built_in None a isa tool max = None
@@ -110,22 +123,27 @@ all_attached scheme isa k seg (code ∷ codes) [] led = led
 all_attached scheme isa k seg (code ∷ codes) (unit ∷ units) led =
     all_attached scheme isa k (seg + 1) codes units (attached (segment_of k seg) code (unit_blocks scheme isa code unit) led)
 
-abbrev pub module_attached : Scheme → Isa → ℕ → List Code → Trace → Trace
-module_attached scheme isa k codes t = record t { ledger = all_attached scheme isa k 0 codes t.units t.ledger; units = drop (length codes) t.units }
+-- all of them, which are in file f
+abbrev pub module_attached : Scheme → Isa → ℕ → ℕ → List Code → Trace → Trace
+module_attached scheme isa k f codes t = record t {
+  ledger = all_attached scheme isa k 0 codes t.units t.ledger;
+  units = drop (length codes) t.units;
+  requests = t.requests ++ unit_asks k f 0 codes t.ledger.counts.blocks;
+}
 
-abbrev pub if_placed : Scheme → Isa → ℕ → List Code → Result Memory MemErr → Trace → Trace
-if_placed scheme isa k codes (Ok m) t = module_attached scheme isa k codes t
-if_placed scheme isa k codes (Err e) t = t
+abbrev pub if_placed : Scheme → Isa → ℕ → ℕ → List Code → Result Memory MemErr → Trace → Trace
+if_placed scheme isa k f codes (Ok m) t = module_attached scheme isa k f codes t
+if_placed scheme isa k f codes (Err e) t = t
 
--- module k, at this base, is to be mapped in memory m from this program
-abbrev pub program_mapped : Scheme → Isa → ℕ → ℕ → Memory → Option Program → Trace → Trace
-program_mapped scheme isa k base m None t = t
-program_mapped scheme isa k base m (Some program) t = if_placed scheme isa k (codes_of program base) (placed program base m) t
+-- module k, at this base, is to be mapped in memory m from this program, which is file f
+abbrev pub program_mapped : Scheme → Isa → ℕ → ℕ → ℕ → Memory → Option Program → Trace → Trace
+program_mapped scheme isa k base f m None t = t
+program_mapped scheme isa k base f m (Some program) t = if_placed scheme isa k f (codes_of program base) (placed program base m) t
 
 -- the next answer says from which file
 abbrev pub file_mapped : Setting → Scheme → Isa → ℕ → ℕ → Memory → List ℕ → Trace → Trace
 file_mapped w scheme isa k base m [] t = t
-file_mapped w scheme isa k base m (f ∷ maps) t = program_mapped scheme isa k base m (file_at w f) (record t { maps = maps })
+file_mapped w scheme isa k base m (f ∷ maps) t = program_mapped scheme isa k base f m (file_at w f) (record t { maps = maps })
 
 -- a number that is no module's takes no answer
 abbrev pub mapped : Setting → Scheme → Isa → ℕ → Option ℕ → Memory → Trace → Trace
@@ -139,9 +157,9 @@ module_unmapped k None (Some program) led = led
 module_unmapped k (Some base) None led = led
 module_unmapped k (Some base) (Some program) led = unmapped k (codes_of program base) led
 
--- one more map call is made
-abbrev pub calling : Asked → Trace → Trace
-calling a t = record t { calls = t.calls ++ a ∷ [] }
+-- these segments are offered their candidates, and are let go; their marks are of no more use
+abbrev pub letting_go : List ℕ → Trace → Trace
+letting_go is t = record t { requests = t.requests ++ partings is t.ledger }
 
 abbrev pub range_of : Span → Range
 range_of s = record { start = s.start; len = s.len }
@@ -150,9 +168,9 @@ range_of s = record { start = s.start; len = s.len }
 abbrev pub after_call : Setting → Scheme → Reply → Trace → Trace
 after_call w scheme (asked.Back (Some span), cpu, m, io) t = on_ledger (written (range_of span)) t
 after_call w scheme (asked.Back None, cpu, m, io) t = t
-after_call w scheme (asked.Map k, cpu, m, io) t = calling (asked.Map k) (mapped w scheme cpu.isa k (base_at w k) m t)
-after_call w scheme (asked.Unmap k, cpu, m, io) t = calling (asked.Unmap k) (on_ledger (module_unmapped k (base_at w k) (program_in w (find (is_module k) io.mapped))) t)
-after_call w scheme (asked.Replace k f, cpu, m, io) t = calling (asked.Replace k f) t
+after_call w scheme (asked.Map k, cpu, m, io) t = mapped w scheme cpu.isa k (base_at w k) m (asking (AsksFile k) t)
+after_call w scheme (asked.Unmap k, cpu, m, io) t = on_ledger (module_unmapped k (base_at w k) (program_in w (find (is_module k) io.mapped))) (letting_go (segments_of k t.ledger) t)
+after_call w scheme (asked.Replace k f, cpu, m, io) t = asking (MakesBe k f) t
 after_call w scheme (asked.Exit status, cpu, m, io) t = t
 after_call w scheme (asked.OutputFull, cpu, m, io) t = t
 
@@ -172,7 +190,7 @@ after_word w scheme s (Err e) t = t
 
 -- the state's instruction is done, which begins a block or not
 abbrev pub after : Setting → Scheme → State × Bool → Trace → Trace
-after w scheme (s, begins) t = after_word w scheme s (fetched s.memory s.cpu.pc) (if begins then on_ledger (with_block scheme (block_at scheme s)) t else t)
+after w scheme (s, begins) t = after_word w scheme s (fetched s.memory s.cpu.pc) (if begins then beginning scheme (block_at scheme s) t else t)
 
 abbrev pub traced : Setting → Scheme → List (State × Bool) → Trace → Trace
 traced w scheme [] t = t
@@ -182,24 +200,28 @@ traced w scheme (x ∷ xs) t = traced w scheme xs (after w scheme x t)
 
 -- nothing has happened, and these answers are to come
 abbrev pub first_trace : List ℕ → List (List ℕ) → Trace
-first_trace maps units = record { ledger = new_ledger; maps = maps; units = units; calls = [] }
+first_trace maps units = record { ledger = new_ledger; maps = maps; units = units; requests = [] }
 
 -- a guest that has a first state has its program's segments attached
-abbrev pub if_started : Scheme → Isa → ℕ → List Code → Option State → Trace → Trace
-if_started scheme isa k codes None t = t
-if_started scheme isa k codes (Some s) t = module_attached scheme isa k codes t
+abbrev pub if_started : Scheme → Isa → ℕ → ℕ → List Code → Option State → Trace → Trace
+if_started scheme isa k f codes None t = t
+if_started scheme isa k f codes (Some s) t = module_attached scheme isa k f codes t
 
 abbrev pub started_at : Scheme → Guest → ℕ → Option ℕ → Option Program → Trace → Trace
 started_at scheme g f None None t = t
 started_at scheme g f None (Some program) t = t
 started_at scheme g f (Some base) None t = t
-started_at scheme g f (Some base) (Some program) t = if_started scheme g.isa g.program (codes_of program base) (start g f base program) t
+started_at scheme g f (Some base) (Some program) t = if_started scheme g.isa g.program f (codes_of program base) (start g f base program) t
 
--- before its first block; the first map answer is the file of its program
+-- before its first block; the first map answer is the file of its program, which it asks for
 abbrev pub started : Setting → Scheme → Guest → List ℕ → List (List ℕ) → Trace
-started w scheme g [] units = first_trace [] units
-started w scheme g (f ∷ maps) units = started_at scheme g f (base_at w g.program) (file_at w f) (first_trace maps units)
+started w scheme g [] units = asking (AsksFile g.program) (first_trace [] units)
+started w scheme g (f ∷ maps) units = started_at scheme g f (base_at w g.program) (file_at w f) (asking (AsksFile g.program) (first_trace maps units))
 
 -- The plain run of a guest with these map answers, and with units of these addresses.
 abbrev pub run_trace : Setting → Scheme → Guest → List ℕ → List (List ℕ) → Trace
 run_trace w scheme g maps units = traced w scheme (cut scheme.max 0 None (plain w g maps).states) (started w scheme g maps units)
+
+-- at the end the guest lets all its segments go
+abbrev pub closed : Trace → Trace
+closed t = letting_go (fin.keys t.ledger.segments) t

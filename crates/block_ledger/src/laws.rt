@@ -1,5 +1,5 @@
 //! What holds of the definitions, as contracts.
-ghost use Rattle.block_ledger.specs.Laws.{FlushEmpties, LinksStayLive, OnlyViews, RoomIsMade, WritesWithdraw};
+ghost use Rattle.block_ledger.specs.Laws.{FlushEmpties, LinksStayLive, OffersStandAlone, OnlyViews, RoomIsMade, WritesWithdraw};
 
 /// What stands ready after some addresses went is what stood ready at the others.
 pub fn only_some_stay()
@@ -9,6 +9,11 @@ pub fn only_some_stay()
 /// A begin that finds the pool full is one after all candidates were offered and the private blocks went.
 pub fn room_is_made()
     ensures { RoomIsMade }
+{}
+
+/// An offer to one segment leaves what is to be offered to the others.
+pub fn offers_stand_alone()
+    ensures { OffersStandAlone }
 {}
 
 /// After a write each block that stands ready has none of the bytes written, and stood ready before.

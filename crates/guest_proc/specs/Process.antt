@@ -1,5 +1,5 @@
 -- A guest that runs, as contracts see it, and how far it comes with a block, and with many.
-use Rattle.std.specs.Prelude.{◌≡◌, ℕ, ◌+◌, ◌<◌, ◌==◌, ◌⊎◌, Bool, false, if◌then◌else◌, List, Option, Some, None, Result, Ok, Err}
+use Rattle.std.specs.Prelude.{◌≡◌, ℕ, ◌+◌, ◌<◌, ◌==◌, ◌⊎◌, Bool, false, if◌then◌else◌, List, [], ◌++◌, Option, Some, None, Result, Ok, Err}
 use Rattle.plain_machine.specs.declared.access.Access.{Access}
 use Rattle.plain_machine.specs.declared.cpu.Cpu.{Cpu}
 use Rattle.plain_machine.specs.declared.ends.End.TheVariants as ends
@@ -18,6 +18,7 @@ use Rattle.report.specs.Rows.{Rows}
 use Rattle.engine.specs.Seeing.{WantsRow, with_events}
 use Rattle.engine.specs.Standing.{state}
 use Rattle.block_ledger.specs.Ledger.{Ledger, is_live, view, wants_room}
+use Rattle.block_ledger.specs.Requests.{Asking}
 use Rattle.block_ledger.specs.Traced.{Scheme, Trace, traced, after_call}
 use Rattle.guest_proc.specs.declared.stop.Ran.{Ran}
 use Rattle.guest_proc.specs.declared.stop.Ran.TheVariants as ran
@@ -50,17 +51,17 @@ stop_of pool p = if p.fuel == 0 then Some (stop.Ended ends.Fuel) else stop_with 
 
 -- ---- how far it came
 
-abbrev pub trace : Ledger → List ℕ → List (List ℕ) → List Asked → Trace
-trace led maps units calls = record { ledger = led; maps = maps; units = units; calls = calls }
+abbrev pub trace : Ledger → List ℕ → List (List ℕ) → List Asking → Trace
+trace led maps units requests = record { ledger = led; maps = maps; units = units; requests = requests }
 
--- The run from old has these states up to new. Their events were counted; and the ledger of new is the one that they lead
--- to, but for this change, which is still to be done. Behind them this is told.
-pub record Went (scheme : Scheme) (old new : Process) (change : Setting → Trace → Trace) (behind : Setting → List ℕ → Marked) : Type 0 where
+-- The run from old has these states up to new, and made these requests. Their events were counted; and the ledger of new is
+-- the one that they lead to, but for this change, which is still to be done. Behind them this is told.
+pub record Went (scheme : Scheme) (made : List Asking) (old new : Process) (change : Setting → Trace → Trace) (behind : Setting → List ℕ → Marked) : Type 0 where
   pub marks : List (State × Bool)
   pub seen : (w : Setting) (answers : List ℕ) → marked scheme.max (run w old.fuel answers old.state) ≡ with_marks marks (behind w answers)
   pub counted : new.report ≡ with_events (events scheme.tool marks) old.report
-  pub ledger : (w : Setting) (maps : List ℕ) (units : List (List ℕ)) (calls : List Asked) →
-      traced w scheme marks (trace old.ledger maps units calls) ≡ change w (trace new.ledger maps units calls)
+  pub ledger : (w : Setting) (maps : List ℕ) (units : List (List ℕ)) (requests : List Asking) →
+      traced w scheme marks (trace old.ledger maps units requests) ≡ change w (trace new.ledger maps units (requests ++ made))
 
 abbrev pub nothing : Setting → Trace → Trace
 nothing w t = t
@@ -74,37 +75,39 @@ abbrev pub answered : ℕ → Process → Action → Setting → List ℕ → Ma
 answered max new action w answers = marked max (run_behind w new.fuel new.state (transition_by w answers new.state action))
 
 -- it goes on from new
-abbrev pub GoesOn : Scheme → Process → Process → Type 0
-GoesOn scheme old new = Went scheme old new nothing (onward scheme.max new)
+abbrev pub GoesOn : Scheme → List Asking → Process → Process → Type 0
+GoesOn scheme made old new = Went scheme made old new nothing (onward scheme.max new)
 
 -- a map call: what is told behind it, and what it does to the ledger, go on from new with the answer that comes
-abbrev pub Wants : Scheme → Process → Process → Asked → Action → Type 0
-Wants scheme old new a action =
-    Went scheme old new (λ w. after_call w scheme (a, new.state.cpu, new.state.memory, new.state.io)) (answered scheme.max new action)
+abbrev pub Wants : Scheme → List Asking → Process → Process → Asked → Action → Type 0
+Wants scheme made old new a action =
+    Went scheme made old new (λ w. after_call w scheme (a, new.state.cpu, new.state.memory, new.state.io)) (answered scheme.max new action)
 
 -- it stops in a block, or at its end
-abbrev pub StopsIn : Scheme → Process → Process → Stop → Type 0
-StopsIn scheme old new (stop.Ended end) = Went scheme old new nothing (λ w answers. over end new.state.io.output answers)
-StopsIn scheme old new (stop.Map k) = Wants scheme old new (asked.Map k) (Maps k new.state)
-StopsIn scheme old new (stop.Unmap k) = Wants scheme old new (asked.Unmap k) (Unmaps k new.state)
-StopsIn scheme old new (stop.Replace k f) = Wants scheme old new (asked.Replace k f) (Replaces k f new.state)
-StopsIn scheme old new stop.PoolFull = ⊥
+abbrev pub StopsIn : Scheme → List Asking → Process → Process → Stop → Type 0
+StopsIn scheme made old new (stop.Ended end) = Went scheme made old new nothing (λ w answers. over end new.state.io.output answers)
+StopsIn scheme made old new (stop.Map k) = Wants scheme made old new (asked.Map k) (Maps k new.state)
+StopsIn scheme made old new (stop.Unmap k) = Wants scheme made old new (asked.Unmap k) (Unmaps k new.state)
+StopsIn scheme made old new (stop.Replace k f) = Wants scheme made old new (asked.Replace k f) (Replaces k f new.state)
+StopsIn scheme made old new stop.PoolFull = ⊥
+
+-- ---- one block, which makes no request: it begins where there is room for it
 
 -- it calls the system; what the call does is still to be done
 abbrev pub Asks : Scheme → Process → Process → Type 0
 Asks scheme old new =
-    Went scheme old new (λ w. after_call w scheme (called new.state.cpu new.state.memory new.state.io)) (answered scheme.max new (call new.state))
+    Went scheme [] old new (λ w. after_call w scheme (called new.state.cpu new.state.memory new.state.io)) (answered scheme.max new (call new.state))
 
 -- a block was run that stood ready
 abbrev pub RanBlock : Scheme → Process → Process → Ran → Type 0
-RanBlock scheme old new ran.On = GoesOn scheme old new
-RanBlock scheme old new (ran.Ended end) = StopsIn scheme old new (stop.Ended end)
+RanBlock scheme old new ran.On = GoesOn scheme [] old new
+RanBlock scheme old new (ran.Ended end) = StopsIn scheme [] old new (stop.Ended end)
 RanBlock scheme old new ran.Asks = Asks scheme old new
 
 -- a call was done
 abbrev pub CallEnds : Scheme → Process → Process → Option Stop → Type 0
-CallEnds scheme old new None = GoesOn scheme old new
-CallEnds scheme old new (Some s) = StopsIn scheme old new s
+CallEnds scheme old new None = GoesOn scheme [] old new
+CallEnds scheme old new (Some s) = StopsIn scheme [] old new s
 
 -- one block was run
 pub record IsOneBlock (old new : Process) : Type 0 where
@@ -113,21 +116,22 @@ pub record IsOneBlock (old new : Process) : Type 0 where
 
 -- At most one block was run: a stop came before it or in it, or none did.
 abbrev pub Advances : Scheme → Process → Process → Option Stop → Type 0
-Advances scheme old new None = IsOneBlock old new × GoesOn scheme old new
-Advances scheme old new (Some s) = ((new ≡ old) × (stop_of scheme.pool old ≡ Some s)) ⊎ (IsOneBlock old new × StopsIn scheme old new s)
+Advances scheme old new None = IsOneBlock old new × GoesOn scheme [] old new
+Advances scheme old new (Some s) = ((new ≡ old) × (stop_of scheme.pool old ≡ Some s)) ⊎ (IsOneBlock old new × StopsIn scheme [] old new s)
 
 -- a stop came in it, or directly behind it
-abbrev pub Comes : Scheme → Process → Process → Stop → Type 0
-Comes scheme old new s = (GoesOn scheme old new × (stop_of scheme.pool new ≡ Some s)) ⊎ StopsIn scheme old new s
+abbrev pub Comes : Scheme → List Asking → Process → Process → Stop → Type 0
+Comes scheme made old new s = (GoesOn scheme made old new × (stop_of scheme.pool new ≡ Some s)) ⊎ StopsIn scheme made old new s
 
 -- At most one block was run: a stop came before it, in it or directly behind it, or none did.
 abbrev pub RanOne : Scheme → Process → Process → Option Stop → Type 0
-RanOne scheme old new None = IsOneBlock old new × GoesOn scheme old new × (stop_of scheme.pool new ≡ None)
-RanOne scheme old new (Some s) = ((new ≡ old) × (stop_of scheme.pool old ≡ Some s)) ⊎ (IsOneBlock old new × Comes scheme old new s)
+RanOne scheme old new None = IsOneBlock old new × GoesOn scheme [] old new × (stop_of scheme.pool new ≡ None)
+RanOne scheme old new (Some s) = ((new ≡ old) × (stop_of scheme.pool old ≡ Some s)) ⊎ (IsOneBlock old new × Comes scheme [] old new s)
 
--- Blocks were run up to a stop: it came before the next block, or in the last one. Where none was run, nothing changed.
-pub record RanOn (scheme : Scheme) (old new : Process) (s : Stop) : Type 0 where
-  pub comes : Comes scheme old new s
+-- Blocks were run up to a stop, and these requests were made: it came before the next block, or in the last one. Where none
+-- was run, nothing changed.
+pub record RanOn (scheme : Scheme) (made : List Asking) (old new : Process) (s : Stop) : Type 0 where
+  pub comes : Comes scheme made old new s
   pub spends : ((new ≡ old) × (stop_of scheme.pool old ≡ Some s)) ⊎ (new.fuel < old.fuel)
 
 -- ---- want of memory
@@ -148,5 +152,5 @@ WantsMemory scheme p = (stop_of scheme.pool p ≡ None) × ((is_live p.ledger p.
 -- some blocks were run, and the next one wants memory
 pub record CameToWant (scheme : Scheme) (old : Process) : Type 0 where
   pub reached : Process
-  pub went : GoesOn scheme old reached
+  pub went : GoesOn scheme [] old reached
   pub wants : WantsMemory scheme reached

@@ -118,7 +118,7 @@ impl<B: Book> Proc<B> {
         maker: &mut M,
         steps: &mut Steps<L>,
     ) -> Result<Stop, AllocError>
-        ensures ran { IfOk result (RanOn (scheme_of self.old.at self.old.limits) (process_of self.old.at (B.ledger self.old.book)) (process_of self.new.at (B.ledger self.new.book))) }
+        ensures ran { IfOk result (RanOn (scheme_of self.old.at self.old.limits) [] (process_of self.old.at (B.ledger self.old.book)) (process_of self.new.at (B.ledger self.new.book))) }
         ensures keeps { OnOk result (Keeps (process_of self.old.at (B.ledger self.old.book)) (process_of self.new.at (B.ledger self.new.book))) }
         ensures asks { IfOk result (λ stop. StopsWell (Some stop) self.new.at.io) }
         ensures made { OnOk result (AreMade (B.ledger self.old.book).counts.built (B.ledger self.new.book).counts.built steps.old steps.new (M.taken maker.old) (M.taken maker.new)) }
@@ -141,7 +141,7 @@ impl<B: Book> Proc<B> {
 
     /// The same, where each block that isn't live is built.
     pub fn run<L: Ledger>(&mut self, steps: &mut Steps<L>) -> Result<Stop, AllocError>
-        ensures ran { IfOk result (RanOn (scheme_of self.old.at self.old.limits) (process_of self.old.at (B.ledger self.old.book)) (process_of self.new.at (B.ledger self.new.book))) }
+        ensures ran { IfOk result (RanOn (scheme_of self.old.at self.old.limits) [] (process_of self.old.at (B.ledger self.old.book)) (process_of self.new.at (B.ledger self.new.book))) }
         ensures keeps { OnOk result (Keeps (process_of self.old.at (B.ledger self.old.book)) (process_of self.new.at (B.ledger self.new.book))) }
         ensures asks { IfOk result (λ stop. StopsWell (Some stop) self.new.at.io) }
         ensures made { OnOk result (AreMade (B.ledger self.old.book).counts.built (B.ledger self.new.book).counts.built steps.old steps.new [] []) }
