@@ -88,7 +88,9 @@ pub trait Book {
         requires { is_some (fin.get (ledger self.old).segments segment) ≡ true }
         ensures blocks { IfOk result (λ blocks. (s : Segment) → fin.get (ledger self.old).segments segment ≡ Some s → blocks.items ≡ map (λ e. e.1) (candidates s (ledger self.old))) }
         ensures ok { OnOk result (ledger self.new ≡ offered segment (ledger self.old)) }
-        ensures err { OnErr result (ledger self.new ≡ ledger self.old) };
+        ensures err { OnErr result (ledger self.new ≡ ledger self.old) }
+        // Each block of the process's own stands ready.
+        ensures own { OnOk result ((a : ℕ) (f : Parts) → fin.get (ledger self.old).private a ≡ Some f → view (ledger self.old) a ≡ Some f) };
 
     /// A module goes that has its code in these regions: their blocks, and its segments. It takes no memory.
     fn unmap(&mut self, number: u32, regions: &[Span])

@@ -1,14 +1,16 @@
 -- Candidates are found one by one.
-use Rattle.std.proofs.Common.{◌≡◌, ℕ, zero, suc, ◌+◌, ◌-◌, ◌<◌, ◌≤◌, Bool, true, false, cond, List, [], ◌∷◌, ◌++◌, get_or, Option, Some, None, refl, sym, ◌∙◌, ap, arith}
+use Rattle.std.proofs.Common.{◌≡◌, ℕ, zero, suc, ◌+◌, ◌-◌, ◌<◌, ◌≤◌, Bool, true, false, cond, List, [], ◌∷◌, ◌++◌, get_or, Option, Some, None, refl, sym, ◌∙◌, ap, arith, inl, inr}
 use Rattle.std.specs.Prelude.{filter, is_some, take}
+use Rattle.std.specs.Option.{option_or}
 use Rattle.std.specs.FinMap as fin
+use Rattle.std.proofs.lemmas.Bool.{cases_Bool}
 use Rattle.fragment.specs.Parts.{Parts}
-use Rattle.block_ledger.specs.Ledger.{Blocks}
-use Rattle.code_book.specs.Tables.{Held, address_of, and_then, if_shared}
+use Rattle.block_ledger.specs.Ledger.{Blocks, view}
+use Rattle.code_book.specs.Tables.{Held, address_of, and_then, block_at, if_shared}
 use Rattle.code_book.specs.Book.{Book, IsKept, tables, ledger}
 use Rattle.code_book.specs.Own.{IsLeast}
 use Rattle.code_book.proofs.Going.{some_same}
-use Rattle.code_book.proofs.Ledgers.{got-private}
+use Rattle.code_book.proofs.Ledgers.{got-private, got-shared}
 use Rattle.code_book.proofs.Walking.{from_on, next-entry, no-entry, push, all_of, from_start}
 
 -- ---- the process's own block at an address
@@ -33,6 +35,19 @@ address_by k kept a f (Some p) at (Some h) held e =
 -- it begins there
 pub own-address : (k : Book) → IsKept k → (a : ℕ) (f : Parts) → fin.get (ledger k).private a ≡ Some f → f.address ≡ a
 own-address k kept a f e = address_by k kept a f (fin.get k.places.place a) refl (and_then (fin.get k.places.place a) (tables k).held) refl e
+
+-- and it stands ready: no unit has a block there
+ready_by : (h : Option Held) (f : Parts) → and_then h (if_shared false) ≡ Some f → option_or (and_then h (if_shared true)) (and_then h (if_shared false)) ≡ Some f
+ready_by None f e = absurd (cc)
+ready_by (Some h) f e = elim (cases_Bool h.shared) [
+  | inl shared ↦ let wrong = rw shared at e in absurd (cc)
+  | inr own ↦ (let is : Some h.block ≡ Some f = rw own at e in rw own is)
+]
+
+pub own-ready : (k : Book) (a : ℕ) (f : Parts) → fin.get (ledger k).private a ≡ Some f → view (ledger k) a ≡ Some f
+own-ready k a f e =
+    ap (λ o. option_or o (fin.get (ledger k).private a)) (got-shared k a) ∙ ap (option_or (block_at (tables k) true a)) (got-private k a)
+    ∙ ready_by (and_then ((tables k).place a) (tables k).held) f (sym (got-private k a) ∙ e)
 
 pub some-left : (n : ℕ) → (n ≡ 0 → ⊥) → 0 < n
 some-left zero none = absurd (none refl)

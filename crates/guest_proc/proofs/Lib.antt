@@ -13,3 +13,4 @@ pub mod Coming
 pub mod Attaching
 pub mod Going
 pub mod Spans
+pub mod Offered

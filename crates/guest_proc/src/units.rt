@@ -4,7 +4,9 @@ ghost use Rattle.std.specs.Arc.{arc_value};
 ghost use Rattle.std.specs.FinMap as fin;
 ghost use Rattle.std.specs.List.{All};
 ghost use Rattle.plain_machine.specs.Memory.{code_at};
-ghost use Rattle.unit_set.specs.Held.{IsFreshFor};
+ghost use Rattle.fragment.specs.Build.{IsFresh};
+ghost use Rattle.unit_set.specs.Held.{IsFreshFor, addresses};
+ghost use Rattle.unit_set.specs.Sets.{IsRising};
 ghost use Rattle.block_book.specs.Clauses.{IsClear, blocks_of};
 ghost use Rattle.block_ledger.specs.Ledger.{Segment, attached, candidates, flushed, offered, segment_of};
 ghost use Rattle.guest_proc.specs.Kept.{process_of, scheme_of};
@@ -54,6 +56,12 @@ impl<B: Book> Proc<B> {
         requires seg { seg < 4 }
         requires attached { is_some (fin.get (B.ledger self.old.book).segments (segment_of «module» seg)) ≡ true }
         ensures blocks { IfOk result (λ blocks. (s : Segment) → fin.get (B.ledger self.old.book).segments (segment_of «module» seg) ≡ Some s → blocks.items ≡ map (λ e. e.1) (candidates s (B.ledger self.old.book))) }
+        ensures addresses { IfOk result (λ blocks. (s : Segment) → fin.get (B.ledger self.old.book).segments (segment_of «module» seg) ≡ Some s → addresses blocks.items ≡ map (λ e. e.0) (candidates s (B.ledger self.old.book))) }
+        // They are as a merge into the unit asks: they rise, are not too many, and are those that are built in the image.
+        ensures rises { IfOk result (λ blocks. IsRising (addresses blocks.items)) }
+        ensures most { IfOk result (λ blocks. length blocks.items ≤ 16384) }
+        ensures fresh { IfOk result (λ blocks. (s : Segment) → fin.get (B.ledger self.old.book).segments (segment_of «module» seg) ≡ Some s →
+            All (IsFresh s.image self.old.at.cpu.isa self.old.at.report.tool self.old.limits.max) blocks.items) }
         ensures offered { OnOk result (process_of self.new.at (B.ledger self.new.book) ≡ put_to (process_of self.old.at (B.ledger self.old.book)) (process_of self.old.at (B.ledger self.old.book)).state
             (offered (segment_of «module» seg) (B.ledger self.old.book))) }
         ensures entered { self.new.entered ≡ self.old.entered }
@@ -62,6 +70,7 @@ impl<B: Book> Proc<B> {
         ensures lasts { OnOk result (self.new.spent ≡ self.old.spent) }
         ensures scheme { scheme_of self.new.at self.new.limits ≡ scheme_of self.old.at self.old.limits }
     {
+        let _ = self.at.mem.code_at(self.at.cpu.pc);
         if self.spent {
             return Err(AllocError);
         }
