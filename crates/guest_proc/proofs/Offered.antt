@@ -1,11 +1,11 @@
 -- What is offered to a unit is what is built in its image.
 use Rattle.std.proofs.Common.{◌≡◌, ℕ, zero, suc, ◌+◌, ◌-◌, ◌*◌, ◌<◌, ◌≤◌, ◌==◌, ◌&&◌, ◌||◌, ◌⊎◌, Bool, true, false, cond, List, [], ◌∷◌, length, get_or, Option, Some, None, refl, sym, ◌∙◌, ap, subst, arith, is_lt, inl, inr}
-use Rattle.std.specs.Prelude.{T, filter, find, map, nat_le, nat_lt, slice_index, take}
+use Rattle.std.specs.Prelude.{T, filter, find, is_some, map, nat_le, nat_lt, not, slice_index, take}
 use Rattle.std.specs.List.{All, AllByRecursion, list_any}
 use Rattle.std.specs.Ordering.{nat_cmp, eq_by_cmp}
 use Rattle.std.specs.FinMap as fin
 use Rattle.std.specs.FinSet as set
-use Rattle.std.proofs.lemmas.Bool.{cases_Bool}
+use Rattle.std.proofs.lemmas.Bool.{cases_Bool, or_parts}
 use Rattle.std.proofs.lemmas.Bool.Decides.{nat_tests}
 use Rattle.std.proofs.lemmas.List.Elements.{All-nil, All-cons}
 use Rattle.std.proofs.lemmas.Option.{same_Some}
@@ -21,7 +21,7 @@ use Rattle.unit_set.specs.Held.{addresses}
 use Rattle.unit_set.specs.Sets.{IsRising}
 use Rattle.block_ledger.specs.Ledger.{Blocks, Ledger, Segment, candidates, is_candidate, is_value, is_within, spells, view}
 use Rattle.block_ledger.specs.Traced.{Scheme, built_in}
-use Rattle.engine.proofs.KeptCode.{and_right, found_fails, found_is}
+use Rattle.engine.proofs.KeptCode.{and_right}
 use Rattle.guest_proc.specs.Fresh.{AreFresh, AreMapped, extent}
 use Rattle.guest_proc.specs.Kept.{IsReady}
 use Rattle.guest_proc.specs.Process.{Process}
@@ -30,6 +30,15 @@ use Rattle.guest_proc.proofs.Fetching.{Behind, behind-code}
 and_left : (a b : Bool) → (a && b) ≡ true → a ≡ true
 and_left true b e = refl
 and_left false b e = absurd (cc)
+
+both_true : (a b : Bool) → a ≡ true → b ≡ true → (a && b) ≡ true
+both_true true b e f = f
+both_true false b e f = absurd (cc)
+
+first_two : (a b c d : Bool) → (a && b && c && d) ≡ true → (a ≡ true) × (b ≡ true)
+first_two true true c d e = (refl, refl)
+first_two true false c d e = absurd (cc)
+first_two false b c d e = absurd (cc)
 
 -- ---- two codes with the same words
 
@@ -79,6 +88,16 @@ same-words c image isa tool max f some start size e is = (built-value image f.ad
 common : (a : ℕ) (q r : Area) → meets a 1 q ≡ true → meets a 1 r ≡ true → meets q.start (length q.bytes) r ≡ true
 common a q r one other = grind (arith, nat_tests)
 
+-- a test that none passes is not passed by the one that is found
+found_fails : (p q : Area → Bool) (xs : Memory) (x : Area) → find p xs ≡ Some x → list_any q xs ≡ false → q x ≡ false
+found_fails p q [] x e none = absurd (cc)
+found_fails p q (y ∷ ys) x e none = elim (cases_Bool (p y)) [
+  | inl here ↦
+      let is : Some y ≡ Some x = rw here at e in
+      ap q (sym (same_Some y x is)) ∙ (or_parts (q y) (list_any q ys) none).0
+  | inr other ↦ let rest : find p ys ≡ Some x = rw other at e in found_fails p q ys x rest (or_parts (q y) (list_any q ys) none).1
+]
+
 -- the region that is found at one address is found at each that it has
 same_found : (m : Memory) (s a : ℕ) (r : Area) → AreDisjoint m → find (has_code s 1) m ≡ Some r → meets a 1 r ≡ true → find (has_code a 1) m ≡ Some r
 same_found [] s a r d e met = absurd (cc)
@@ -88,7 +107,8 @@ same_found (q ∷ qs) s a r d e met = elim (cases_Bool (has_code s 1 q)) [
       let same : q ≡ r = same_Some q r is in
       let runs : q.flags.execute ≡ true = and_left q.flags.execute (meets s 1 q) here in
       let its : meets a 1 q ≡ true = ap (meets a 1) same ∙ met in
-      rw (runs, its) is
+      let too : has_code a 1 q ≡ true = both_true q.flags.execute (meets a 1 q) runs its in
+      rw too is
   | inr other ↦
       let rest : find (has_code s 1) qs ≡ Some r = rw other at e in
       elim (cases_Bool (has_code a 1 q)) [
@@ -132,14 +152,14 @@ pub record IsOffered (image : Code) (isa : Isa) (tool : Tool) (max : ℕ) (e : �
 offered_one : (scheme : Scheme) (p : Process) (i : ℕ) (s : Segment) (e : ℕ × Parts) → 0 < scheme.max → IsMemory p.state.memory → IsReady scheme p → fin.get p.ledger.segments i ≡ Some s → view p.ledger e.0 ≡ Some e.1 → is_candidate s e ≡ true →
     IsOffered s.image p.state.cpu.isa scheme.tool scheme.max e
 offered_one scheme p i s (a, f) some good ready got live is =
-    let inside : is_within a (s.image ∷ []) ≡ true = and_left (is_within a (s.image ∷ [])) _ is in
-    let rest = and_right (is_within a (s.image ∷ [])) _ is in
-    let spelt : spells s.image a f.words ≡ true = and_left (spells s.image a f.words) _ rest in
+    let parts = first_two (is_within a (s.image ∷ [])) (spells s.image a f.words) (not (set.contains s.addresses a)) (not (set.contains s.offered a)) is in
+    let inside : is_within a (s.image ∷ []) ≡ true = parts.0 in
+    let spelt : spells s.image a f.words ≡ true = parts.1 in
     let code = extent_of (code_at p.state.memory s.image.start) s.image (ready.mapped i s got) in
-    let at = region_too p.state.memory s.image code.0 a good.disjoint code.1.0 code.1.1.0 code.1.1.1 inside in
+    let at = region_too p.state.memory s.image code.0 a good.disjoint code.1 code.2 code.3 inside in
     let both = value-built code.0 a p.state.cpu.isa scheme.tool scheme.max f some (built_there (code_at p.state.memory a) code.0 a p.state.cpu.isa scheme.tool scheme.max f at (ready.fresh a f live)) in
     let here : spells s.image f.address f.words ≡ true = subst (λ x. spells s.image x f.words ≡ true) (sym both.1) spelt in
-    record { at = both.1; fresh = same-words code.0 s.image p.state.cpu.isa scheme.tool scheme.max f some code.1.1.0 code.1.1.1 here both.0 }
+    record { at = both.1; fresh = same-words code.0 s.image p.state.cpu.isa scheme.tool scheme.max f some code.2 code.3 here both.0 }
 
 -- ---- all of them
 
@@ -232,8 +252,8 @@ module _ (image : Code) (isa : Isa) (tool : Tool) (max : ℕ) where
   keys_of (e ∷ es) is = λ i. is.0.at i ∷ keys_of es is.1 i
 
   fresh_all : (es : List (ℕ × Parts)) → AllByRecursion (IsOffered image isa tool max) es → All (IsFresh image isa tool max) (map (λ e. e.1) es)
-  fresh_all [] is = All-nil
-  fresh_all (e ∷ es) is = All-cons e.1 (map (λ e. e.1) es) is.0.fresh (fresh_all es is.1)
+  fresh_all [] is = All-nil (IsFresh image isa tool max)
+  fresh_all (e ∷ es) is = All-cons (IsFresh image isa tool max) e.1 (map (λ e. e.1) es) is.0.fresh (fresh_all es is.1)
 
 from_low : (low : ℕ) (es : List (ℕ × Parts)) → RiseFrom low es → (i : ℕ) → i < length (map (λ (e : ℕ × Parts). e.0) es) → low ≤ slice_index (map (λ (e : ℕ × Parts). e.0) es) i
 from_low low [] is i less = absurd (omega (arith, less))
@@ -280,3 +300,7 @@ candidates-offered scheme p i s some good ready own got =
       most = subst (λ n. n ≤ 16384) (sym (map_length (candidates s p.ledger))) (omega (arith, few));
       fresh = fresh_all s.image p.state.cpu.isa scheme.tool scheme.max (candidates s p.ledger) all;
     }
+
+pub some-segment : (o : Option Segment) → is_some o ≡ true → (s : Segment) × (o ≡ Some s)
+some-segment None h = absurd (cc)
+some-segment (Some s) h = (s, refl)

@@ -1,0 +1,5 @@
+pub mod Script
+pub mod Told
+pub mod Legs
+pub mod Laws
+pub mod Rows
