@@ -2,6 +2,7 @@
 use Rattle.std.proofs.Common.{◌≡◌, ℕ, ◌+◌, ◌-◌, ◌*◌, ◌%◌, ◌^◌, ◌<◌, ◌≤◌, Bool, true, false, if◌then◌else◌, List, [], length, Option, Some, None, Result, Err, refl, sym, ◌∙◌, ap, subst, arith, inl, inr}
 use Rattle.std.specs.Prelude.{find, slice_get, IfSome, OnErr}
 use Rattle.std.proofs.lemmas.Bool.{cases_lt}
+use Rattle.std.proofs.lemmas.List.{append-nil}
 use Rattle.std.proofs.lemmas.Option.{same_Some, slice_get_past}
 use Rattle.cc_base.specs.declared.span.Span.{Span}
 use Rattle.rv_decode.specs.declared.ins.Ins.{Ins}
@@ -10,7 +11,6 @@ use Rattle.rv_decode.specs.declared.ins.Isa.{Isa}
 use Rattle.rv_decode.specs.Table.{instruction}
 use Rattle.probe_tools.specs.declared.tool.Tool.{Tool}
 use Rattle.plain_machine.specs.declared.cpu.Cpu.{Cpu}
-use Rattle.plain_machine.specs.declared.io.Asked.{Asked}
 use Rattle.plain_machine.specs.Io.{Io}
 use Rattle.plain_machine.specs.Memory.{Memory, IsMemory, has_code, code_of}
 use Rattle.plain_machine.specs.Machine.{State, Setting}
@@ -27,7 +27,9 @@ use Rattle.engine.specs.Seeing.{with_events}
 use Rattle.engine.specs.Standing.{StandsIn, SameCode, IsStored, state}
 use Rattle.engine.specs.Words.{marks_before}
 use Rattle.block_ledger.specs.Ledger.{Ledger, left_by, written}
-use Rattle.block_ledger.specs.Traced.{Scheme, Trace, with_block, range_of, direct, is_direct}
+use Rattle.block_ledger.specs.Requests.{Asking}
+use Rattle.block_ledger.specs.Traced.{Scheme, Trace, range_of, direct, is_direct}
+use Rattle.guest_proc.specs.Begun.{BlockBegins}
 use Rattle.guest_proc.specs.Fresh.{AreFresh, AreMapped, block_in}
 use Rattle.guest_proc.specs.Process.{Process, Went, trace, process}
 use Rattle.guest_proc.proofs.Put.{found-at}
@@ -53,19 +55,20 @@ own-stands tool max isa m a block some good is =
 
 -- a block was run, and left so
 pub went-block : (scheme : Scheme) (block : Parts) (n fuel rest : ℕ) (s next : State) (how : Left) (rows more : Rows) (led ready last : Ledger) (change : Setting → Trace → Trace) → 0 < scheme.max →
-    RunsBlock scheme.max block n fuel s how rest next → block_in scheme.tool scheme.max s.cpu.isa s.memory s.cpu.pc ≡ Some block → with_block scheme (Some block) led ≡ ready →
+    RunsBlock scheme.max block n fuel s how rest next → block_in scheme.tool scheme.max s.cpu.isa s.memory s.cpu.pc ≡ Some block → BlockBegins scheme block led ready →
     more ≡ with_events (events scheme.tool (marks_before block.words s n)) rows →
-    ((w : Setting) (maps : List ℕ) (units : List (List ℕ)) (calls : List Asked) → leaving scheme block how next w (trace ready maps units calls) ≡ change w (trace last maps units calls)) →
-    Went scheme (record { state = s; fuel = fuel; report = rows; ledger = led }) (record { state = next; fuel = rest; report = more; ledger = last }) change (onward scheme.max how rest next)
+    ((w : Setting) (maps : List ℕ) (units : List (List ℕ)) (requests : List Asking) → leaving scheme block how next w (trace ready maps units requests) ≡ change w (trace last maps units requests)) →
+    Went scheme [] (record { state = s; fuel = fuel; report = rows; ledger = led }) (record { state = next; fuel = rest; report = more; ledger = last }) change (onward scheme.max how rest next)
 went-block scheme block n fuel rest s next how rows more led ready last change some runs here begun counted left = record {
   marks = marks_before block.words s n;
   seen = runs.seen;
   counted = counted;
-  ledger = λ w maps units calls.
+  ledger = λ w maps units requests.
       let f = found-at scheme.tool scheme.max s.cpu.isa s.memory s.cpu.pc block some here in
-      block-traced w scheme block s (trace led maps units calls) here (code_of f.region) s.cpu.isa scheme.tool scheme.max f.built refl n how next runs.words
-      ∙ ap (λ l. leaving scheme block how next w (trace l maps units calls)) begun
-      ∙ left w maps units calls;
+      block-traced w scheme block s (trace led maps units requests) here (code_of f.region) s.cpu.isa scheme.tool scheme.max f.built refl n how next runs.words
+      ∙ ap (leaving scheme block how next w) (begun maps units requests)
+      ∙ left w maps units requests
+      ∙ ap (λ rs. change w (trace last maps units rs)) (sym (append-nil requests));
 }
 
 -- ---- what is kept
@@ -126,18 +129,18 @@ leave-small tool max isa m a e block exits exit some is same at =
 
 -- the block that stands ready was run
 pub ran-block : (scheme : Scheme) (max : ℕ) (block other : Parts) (fuel rest : ℕ) (cpu c : Cpu) (m after : Memory) (io : Io) (left how : Left) (rows more : Rows) (led ready last : Ledger) (change : Setting → Trace → Trace) → 0 < max →
-    scheme.tool ≡ rows.tool → scheme.max ≡ max → IsMemory m → block_in rows.tool max cpu.isa m cpu.pc ≡ Some block → block ≡ other → with_block scheme (Some other) led ≡ ready →
+    scheme.tool ≡ rows.tool → scheme.max ≡ max → IsMemory m → block_in rows.tool max cpu.isa m cpu.pc ≡ Some block → block ≡ other → BlockBegins scheme other led ready →
     ((k : ℕ) (i : Io) → 0 < k → StandsIn m cpu.isa rows.tool k block → RunsBlock k block (fuel - rest) fuel (state cpu m i) left rest (state c after i)) → left ≡ how →
     ((i : Io) → more ≡ with_events (events rows.tool (marks_before block.words (state cpu m i) (fuel - rest))) rows) →
-    ((w : Setting) (maps : List ℕ) (units : List (List ℕ)) (calls : List Asked) → leaving scheme block how (state c after io) w (trace ready maps units calls) ≡ change w (trace last maps units calls)) →
-    Went scheme (process cpu m io fuel rows led) (process c after io rest more last) change (onward scheme.max how rest (state c after io))
+    ((w : Setting) (maps : List ℕ) (units : List (List ℕ)) (requests : List Asking) → leaving scheme block how (state c after io) w (trace ready maps units requests) ≡ change w (trace last maps units requests)) →
+    Went scheme [] (process cpu m io fuel rows led) (process c after io rest more last) change (onward scheme.max how rest (state c after io))
 ran-block scheme max block other fuel rest cpu c m after io left how rows more led ready last change some tool_is max_is good here one begun runs is counted did =
     let here' : block_in scheme.tool scheme.max cpu.isa m cpu.pc ≡ Some block = ap (λ x. block_in x scheme.max cpu.isa m cpu.pc) tool_is ∙ ap (λ x. block_in rows.tool x cpu.isa m cpu.pc) max_is ∙ here in
     let some' : 0 < scheme.max = rw max_is some in
     let stands : StandsIn m cpu.isa rows.tool scheme.max block = subst (λ x. StandsIn m cpu.isa rows.tool x block) (sym max_is) (ready-stands rows.tool max cpu.isa m cpu.pc block some good here) in
     went-block scheme block (fuel - rest) fuel rest (state cpu m io) (state c after io) how rows more led ready last change some'
     (subst (λ l. RunsBlock scheme.max block (fuel - rest) fuel (state cpu m io) l rest (state c after io)) is (runs scheme.max io some' stands))
-    here' (ap (λ f. with_block scheme (Some f) led) one ∙ begun)
+    here' (subst (λ f. BlockBegins scheme f led ready) (sym one) begun)
     (counted io ∙ ap (λ x. with_events (events x (marks_before block.words (state cpu m io) (fuel - rest))) rows) (sym tool_is))
     did
 

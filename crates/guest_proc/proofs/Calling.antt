@@ -1,5 +1,5 @@
 -- A run behind a system call.
-use Rattle.std.proofs.Common.{◌≡◌, ℕ, ◌%◌, ◌<◌, Bool, List, [], Option, Some, None, refl, sym, ◌∙◌, ap, subst}
+use Rattle.std.proofs.Common.{◌≡◌, ℕ, ◌%◌, ◌<◌, Bool, List, [], ◌++◌, Option, Some, None, refl, sym, ◌∙◌, ap, subst}
 use Rattle.cc_base.specs.declared.span.Span.{Span}
 use Rattle.rv_decode.specs.declared.ins.Isa.{Isa}
 use Rattle.probe_tools.specs.declared.tool.Tool.{Tool}
@@ -18,6 +18,7 @@ use Rattle.plain_machine.specs.Cut.{Marked, marked, with_marks, over}
 use Rattle.report.specs.Rows.{Rows}
 use Rattle.engine.specs.Standing.{SameCode, IsStored, state}
 use Rattle.block_ledger.specs.Ledger.{Ledger, written}
+use Rattle.block_ledger.specs.Requests.{Asking}
 use Rattle.block_ledger.specs.Traced.{Scheme, Trace, after_call, on_ledger, range_of}
 use Rattle.region_laws.specs.Heap.{HeapIsData}
 use Rattle.region_laws.specs.Calls.{CallLeaves, Leaves, CodeBehind, AsksWell, OutputBehind}
@@ -97,18 +98,18 @@ module _ (scheme : Scheme) (p : Process) (cpu c : Cpu) (m after : Memory) (io no
   behind r w answers = marked scheme.max (run_behind w fuel (state cpu m io) (transition_by w answers (state cpu m io) (replied (state cpu m io) r)))
 
   -- the call came to this reply
-  came : (r : Reply) → r ≡ called cpu m io → Asks scheme p old → Went scheme p old (λ w. after_call w scheme r) (behind r)
-  came r is went = subst (λ x. Went scheme p old (λ w. after_call w scheme x) (behind x)) (sym is) went
+  came : (r : Reply) → r ≡ called cpu m io → Asks scheme p old → Went scheme [] p old (λ w. after_call w scheme r) (behind r)
+  came r is went = subst (λ x. Went scheme [] p old (λ w. after_call w scheme x) (behind x)) (sym is) went
 
   -- what is told, and the ledger's change, in other words
-  other_words : (change next : Setting → Trace → Trace) (tale tell : Setting → List ℕ → Marked) (l : Ledger) → Went scheme p old change tale →
-      ((w : Setting) (answers : List ℕ) → tale w answers ≡ tell w answers) → ((w : Setting) (maps : List ℕ) (units : List (List ℕ)) (calls : List Asked) → change w (trace led maps units calls) ≡ next w (trace l maps units calls)) →
-      Went scheme p (new l) next tell
+  other_words : (change next : Setting → Trace → Trace) (tale tell : Setting → List ℕ → Marked) (l : Ledger) → Went scheme [] p old change tale →
+      ((w : Setting) (answers : List ℕ) → tale w answers ≡ tell w answers) → ((w : Setting) (maps : List ℕ) (units : List (List ℕ)) (requests : List Asking) → change w (trace led maps units requests) ≡ next w (trace l maps units requests)) →
+      Went scheme [] p (new l) next tell
   other_words change next tale tell l went same does = record {
     marks = went.marks;
     seen = λ w answers. went.seen w answers ∙ ap (with_marks went.marks) (same w answers);
     counted = went.counted;
-    ledger = λ w maps units calls. went.ledger w maps units calls ∙ does w maps units calls;
+    ledger = λ w maps units requests. went.ledger w maps units requests ∙ does w maps units (requests ++ []);
   }
 
   asks_on : (a : Asked) (action : Action) → (w : Setting) (answers : List ℕ) → now.output ≡ io.output →
@@ -119,22 +120,22 @@ module _ (scheme : Scheme) (p : Process) (cpu c : Cpu) (m after : Memory) (io no
       ∙ ap (run_behind w fuel (state c after now)) (each (state cpu m io) (state c after now)))
 
   ends_so : (a : Asked) → ◌≡◌ {A = Reply} (a, c, after, now) (called cpu m io) → OutputBehind a io now → Asks scheme p old → CallEnds scheme p (new (told a led)) (stop_for cpu.pc a)
-  ends_so (asked.Back None) is out went = other_words _ nothing _ (onward scheme.max (new led)) led (came (asked.Back None, c, after, now) is went) (λ w answers. refl) (λ w maps units calls. refl)
+  ends_so (asked.Back None) is out went = other_words _ nothing _ (onward scheme.max (new led)) led (came (asked.Back None, c, after, now) is went) (λ w answers. refl) (λ w maps units requests. refl)
   ends_so (asked.Back (Some span)) is out went =
-      other_words _ nothing _ (onward scheme.max (new (written (range_of span) led))) (written (range_of span) led) (came (asked.Back (Some span), c, after, now) is went) (λ w answers. refl) (λ w maps units calls. refl)
+      other_words _ nothing _ (onward scheme.max (new (written (range_of span) led))) (written (range_of span) led) (came (asked.Back (Some span), c, after, now) is went) (λ w answers. refl) (λ w maps units requests. refl)
   ends_so (asked.Exit status) is out went =
-      other_words _ nothing _ (λ w answers. over (ends.Exit status) now.output answers) led (came (asked.Exit status, c, after, now) is went) (λ w answers. ap (λ x. over (ends.Exit status) x answers) (sym out)) (λ w maps units calls. refl)
+      other_words _ nothing _ (λ w answers. over (ends.Exit status) now.output answers) led (came (asked.Exit status, c, after, now) is went) (λ w answers. ap (λ x. over (ends.Exit status) x answers) (sym out)) (λ w maps units requests. refl)
   ends_so asked.OutputFull is out went =
-      other_words _ nothing _ (λ w answers. over (ends.Fault kinds.Output cpu.pc) now.output answers) led (came (asked.OutputFull, c, after, now) is went) (λ w answers. ap (λ x. over (ends.Fault kinds.Output cpu.pc) x answers) (sym out)) (λ w maps units calls. refl)
+      other_words _ nothing _ (λ w answers. over (ends.Fault kinds.Output cpu.pc) now.output answers) led (came (asked.OutputFull, c, after, now) is went) (λ w answers. ap (λ x. over (ends.Fault kinds.Output cpu.pc) x answers) (sym out)) (λ w maps units requests. refl)
   ends_so (asked.Map k) is out went =
       other_words _ (λ w. after_call w scheme (asked.Map k, c, after, now)) _ (answered scheme.max (new led) (Maps k (state c after now))) led (came (asked.Map k, c, after, now) is went)
-      (λ w answers. asks_on (asked.Map k) (Maps k (state c after now)) w answers out (λ x y. refl)) (λ w maps units calls. refl)
+      (λ w answers. asks_on (asked.Map k) (Maps k (state c after now)) w answers out (λ x y. refl)) (λ w maps units requests. refl)
   ends_so (asked.Unmap k) is out went =
       other_words _ (λ w. after_call w scheme (asked.Unmap k, c, after, now)) _ (answered scheme.max (new led) (Unmaps k (state c after now))) led (came (asked.Unmap k, c, after, now) is went)
-      (λ w answers. asks_on (asked.Unmap k) (Unmaps k (state c after now)) w answers out (λ x y. refl)) (λ w maps units calls. refl)
+      (λ w answers. asks_on (asked.Unmap k) (Unmaps k (state c after now)) w answers out (λ x y. refl)) (λ w maps units requests. refl)
   ends_so (asked.Replace k f) is out went =
       other_words _ (λ w. after_call w scheme (asked.Replace k f, c, after, now)) _ (answered scheme.max (new led) (Replaces k f (state c after now))) led (came (asked.Replace k f, c, after, now) is went)
-      (λ w answers. asks_on (asked.Replace k f) (Replaces k f (state c after now)) w answers out (λ x y. refl)) (λ w maps units calls. refl)
+      (λ w answers. asks_on (asked.Replace k f) (Replaces k f (state c after now)) w answers out (λ x y. refl)) (λ w maps units requests. refl)
 
 pub call-done : (cpu c : Cpu) (m after : Memory) (io now : Io) (fuel : ℕ) (rows : Rows) (led last : Ledger) (a : Asked) (s : Option Stop) → IsMemory m → HeapIsData io.heap m → cpu.pc % 4 ≡ 0 →
     ◌≡◌ {A = Reply} (a, c, after, now) (called cpu m io) → last ≡ told a led → s ≡ stop_for cpu.pc a → CallDone (process cpu m io fuel rows led) (process c after now fuel rows last) s

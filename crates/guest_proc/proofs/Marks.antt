@@ -32,7 +32,7 @@ use Rattle.engine.proofs.Path.{state-first, state-more, marks-none, marks-more}
 use Rattle.engine.proofs.Steps.{goes-on, GoesOn}
 use Rattle.engine.proofs.Stored.{isa-kept}
 use Rattle.block_ledger.specs.Ledger.{Ledger, left_by, written}
-use Rattle.block_ledger.specs.Traced.{Scheme, Trace, on_ledger, direct, exit_by, with_block, block_at, after_call, after_step, after_word, after, traced, range_of}
+use Rattle.block_ledger.specs.Traced.{Scheme, Trace, on_ledger, direct, exit_by, beginning, block_at, after_call, after_step, after_word, after, traced, range_of}
 
 -- ---- the exits of an instruction
 
@@ -168,7 +168,7 @@ leaving scheme block left.Fuel next w t = on_ledger (left_by (Some 0)) t
 
 module _ (w : Setting) (scheme : Scheme) (block : Parts) (s : State) (t : Trace) (begins : block_at scheme s ≡ Some block) where
   abbrev base : Trace
-  base = on_ledger (with_block scheme (Some block)) t
+  base = beginning scheme (Some block) t
 
   abbrev at : ℕ → State
   at i = state_at block.words s i
@@ -181,7 +181,7 @@ module _ (w : Setting) (scheme : Scheme) (block : Parts) (s : State) (t : Trace)
 
   -- before word number i is done
   abbrev prepared : ℕ → Trace
-  prepared i = if is_first i then on_ledger (with_block scheme (block_at scheme (at i))) (traced w scheme (marks_before block.words s i) t) else traced w scheme (marks_before block.words s i) t
+  prepared i = if is_first i then beginning scheme (block_at scheme (at i)) (traced w scheme (marks_before block.words s i) t) else traced w scheme (marks_before block.words s i) t
 
   -- the block has begun, and how it is left is open
   abbrev HasBase : Trace → Type 0
@@ -205,9 +205,9 @@ module _ (w : Setting) (scheme : Scheme) (block : Parts) (s : State) (t : Trace)
 
   before : (i : ℕ) → ((k : ℕ) → k < i → word_of (at k) ≡ Ok (word k)) → ((k : ℕ) → k < i → done_at block.words s k ≡ done.Next) → HasBase (prepared i)
   before zero there went = λ x.
-      ap (λ marks. on_ledger (left_by x) (on_ledger (with_block scheme (block_at scheme (at 0))) (traced w scheme marks t))) (marks-none block.words s)
-      ∙ ap (λ y. on_ledger (left_by x) (on_ledger (with_block scheme (block_at scheme y)) t)) (state-first block.words s)
-      ∙ ap (λ f. on_ledger (left_by x) (on_ledger (with_block scheme f) t)) begins
+      ap (λ marks. on_ledger (left_by x) (beginning scheme (block_at scheme (at 0)) (traced w scheme marks t))) (marks-none block.words s)
+      ∙ ap (λ y. on_ledger (left_by x) (beginning scheme (block_at scheme y) t)) (state-first block.words s)
+      ∙ ap (λ f. on_ledger (left_by x) (beginning scheme f t)) begins
   before (suc i) there went =
       let earlier = before i (λ k lt. there k (omega arith)) (λ k lt. went k (omega arith)) in
       let e : Option ℕ = exit_by (exits_of (at i).cpu.pc (does i)) done.Next in

@@ -8,6 +8,7 @@ use Rattle.plain_machine.specs.Events.{events, seen}
 use Rattle.engine.specs.Seeing.{with_events}
 use Rattle.engine.proofs.Counting.{events-counted}
 use Rattle.block_build.specs.Making.{Taken}
+use Rattle.block_ledger.specs.Requests.{Asking}
 use Rattle.block_ledger.specs.Traced.{Scheme, Trace, traced, after}
 use Rattle.guest_proc.specs.declared.stop.Stop.{Stop}
 use Rattle.guest_proc.specs.declared.stop.Stop.TheVariants as stop
@@ -23,25 +24,29 @@ with_more : (xs ys : List (State × Bool)) (v : Marked) → with_marks xs (with_
 with_more xs ys v = ap (λ zs. record v { marks = zs }) (sym (append_assoc xs ys v.marks))
 
 -- what was run up to mid, and what is run from there
-pub went-both : (scheme : Scheme) (old mid new : Process) (change : Setting → Trace → Trace) (behind : Setting → List ℕ → Marked) →
-    GoesOn scheme old mid → Went scheme mid new change behind → Went scheme old new change behind
-went-both scheme old mid new change behind a b = record {
+pub went-both : (scheme : Scheme) (made more : List Asking) (old mid new : Process) (change : Setting → Trace → Trace) (behind : Setting → List ℕ → Marked) →
+    GoesOn scheme made old mid → Went scheme more mid new change behind → Went scheme (made ++ more) old new change behind
+went-both scheme made more old mid new change behind a b = record {
   marks = a.marks ++ b.marks;
   seen = λ w answers. a.seen w answers ∙ ap (with_marks a.marks) (b.seen w answers) ∙ with_more a.marks b.marks (behind w answers);
   counted = events-counted (events scheme.tool a.marks) (events scheme.tool b.marks) old.report mid.report new.report a.counted b.counted
       ∙ ap (λ es. with_events es old.report) (sym (flat_map-append (seen scheme.tool) a.marks b.marks));
-  ledger = λ w maps units calls. traced_append w scheme a.marks b.marks (trace old.ledger maps units calls) ∙ ap (traced w scheme b.marks) (a.ledger w maps units calls) ∙ b.ledger w maps units calls;
+  ledger = λ w maps units requests.
+      traced_append w scheme a.marks b.marks (trace old.ledger maps units requests)
+      ∙ ap (traced w scheme b.marks) (a.ledger w maps units requests)
+      ∙ b.ledger w maps units (requests ++ made)
+      ∙ ap (λ rs. change w (trace new.ledger maps units rs)) (append_assoc requests made more);
 }
 
-pub no-blocks : (scheme : Scheme) (p : Process) → GoesOn scheme p p
-no-blocks scheme p = record { marks = []; seen = λ w answers. refl; counted = refl; ledger = λ w maps units calls. refl }
+pub no-blocks : (scheme : Scheme) (p : Process) → GoesOn scheme [] p p
+no-blocks scheme p = record { marks = []; seen = λ w answers. refl; counted = refl; ledger = λ w maps units requests. ap (trace p.ledger maps units) (sym (append-nil requests)) }
 
-stops-both : (scheme : Scheme) (old mid new : Process) (s : Stop) → GoesOn scheme old mid → StopsIn scheme mid new s → StopsIn scheme old new s
-stops-both scheme old mid new (stop.Ended end) a b = went-both scheme old mid new nothing _ a b
-stops-both scheme old mid new (stop.Map k) a b = went-both scheme old mid new _ _ a b
-stops-both scheme old mid new (stop.Unmap k) a b = went-both scheme old mid new _ _ a b
-stops-both scheme old mid new (stop.Replace k f) a b = went-both scheme old mid new _ _ a b
-stops-both scheme old mid new stop.PoolFull a b = absurd b
+pub stops-both : (scheme : Scheme) (made more : List Asking) (old mid new : Process) (s : Stop) → GoesOn scheme made old mid → StopsIn scheme more mid new s → StopsIn scheme (made ++ more) old new s
+stops-both scheme made more old mid new (stop.Ended end) a b = went-both scheme made more old mid new nothing _ a b
+stops-both scheme made more old mid new (stop.Map k) a b = went-both scheme made more old mid new _ _ a b
+stops-both scheme made more old mid new (stop.Unmap k) a b = went-both scheme made more old mid new _ _ a b
+stops-both scheme made more old mid new (stop.Replace k f) a b = went-both scheme made more old mid new _ _ a b
+stops-both scheme made more old mid new stop.PoolFull a b = absurd b
 
 -- the stop that is told behind one block
 pub one-then : (scheme : Scheme) (old new : Process) (s : Option Stop) → Advances scheme old new None → s ≡ stop_of scheme.pool new → RanOne scheme old new s
@@ -56,7 +61,7 @@ one-stops scheme old new s (inr within) = inr (within.0, inr within.1)
 -- ---- what a loop of blocks keeps
 
 pub record WentOn (scheme : Scheme) (old new : Process) : Type 0 where
-  pub goes : GoesOn scheme old new
+  pub goes : GoesOn scheme [] old new
   pub spends : (new ≡ old) ⊎ (new.fuel < old.fuel)
 
 pub start-on : (scheme : Scheme) (p : Process) → WentOn scheme p p
@@ -68,10 +73,10 @@ less_fuel old mid new (inr before) less = omega (arith, before, less)
 
 -- one more block
 pub one-more-on : (scheme : Scheme) (old mid new : Process) → WentOn scheme old mid → Advances scheme mid new None → WentOn scheme old new
-one-more-on scheme old mid new a b = record { goes = went-both scheme old mid new nothing _ a.goes b.1; spends = inr (less_fuel old mid new a.spends b.0.less) }
+one-more-on scheme old mid new a b = record { goes = went-both scheme [] [] old mid new nothing _ a.goes b.1; spends = inr (less_fuel old mid new a.spends b.0.less) }
 
 -- and the stop
-pub stop-on : (scheme : Scheme) (old mid new : Process) (s : Stop) → WentOn scheme old mid → Advances scheme mid new (Some s) → RanOn scheme old new s
+pub stop-on : (scheme : Scheme) (old mid new : Process) (s : Stop) → WentOn scheme old mid → Advances scheme mid new (Some s) → RanOn scheme [] old new s
 stop-on scheme old mid new s a (inl before) =
     let there = subst (λ p. WentOn scheme old p) (sym before.0) a in
     record {
@@ -81,7 +86,7 @@ stop-on scheme old mid new s a (inl before) =
         | inr less ↦ inr less
       ];
     }
-stop-on scheme old mid new s a (inr within) = record { comes = inr (stops-both scheme old mid new s a.goes within.1); spends = inr (less_fuel old mid new a.spends within.0.less) }
+stop-on scheme old mid new s a (inr within) = record { comes = inr (stops-both scheme [] [] old mid new s a.goes within.1); spends = inr (less_fuel old mid new a.spends within.0.less) }
 
 pub came-to-want : (scheme : Scheme) (old mid : Process) → WentOn scheme old mid → WantsMemory scheme mid → CameToWant scheme old
 came-to-want scheme old mid a wants = record { reached = mid; went = a.goes; wants = wants }

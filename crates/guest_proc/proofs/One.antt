@@ -1,8 +1,9 @@
 -- One block of a process.
-use Rattle.std.proofs.Common.{◌≡◌, ℕ, ◌+◌, ◌%◌, ◌^◌, ◌<◌, ◌==◌, Bool, true, false, if◌then◌else◌, Option, Some, None, Result, Ok, Err, refl, sym, ◌∙◌, ap, subst, arith, inl, inr}
+use Rattle.std.proofs.Common.{◌≡◌, ℕ, ◌+◌, ◌%◌, ◌^◌, ◌<◌, ◌==◌, Bool, true, false, if◌then◌else◌, List, [], ◌++◌, Option, Some, None, Result, Ok, Err, refl, sym, ◌∙◌, ap, subst, arith, inl, inr}
 use Rattle.std.specs.Prelude.{◌≢◌, is_some, IfNone, IfSome, IfOk, OnErr, OnOk}
 use Rattle.std.proofs.lemmas.Bool.{cases_Bool}
 use Rattle.std.proofs.lemmas.Bool.Decides.{nat_tests}
+use Rattle.std.proofs.lemmas.List.{append-nil}
 use Rattle.std.proofs.lemmas.Option.{same_Some}
 use Rattle.std.specs.FinMap as fin
 use Rattle.std.specs.Option.{option_map}
@@ -20,17 +21,18 @@ use Rattle.report.specs.Rows.{Rows}
 use Rattle.engine.specs.Standing.{SameRegions}
 use Rattle.block_build.specs.Making.{Taken}
 use Rattle.block_ledger.specs.Ledger.{Ledger, Segment, begun, view, is_live, wants_room, flushed, all_offered}
-use Rattle.block_ledger.specs.Traced.{Scheme, with_block}
+use Rattle.block_ledger.specs.Requests.{offers}
+use Rattle.block_ledger.specs.Traced.{Scheme, room_asks, with_block}
 use Rattle.region_laws.proofs.HeapMoves.{heap-kept, stand-same}
 use Rattle.guest_proc.specs.declared.stop.Ran.{Ran}
 use Rattle.guest_proc.specs.declared.stop.Ran.TheVariants as ran
 use Rattle.guest_proc.specs.declared.stop.Stop.{Stop}
 use Rattle.guest_proc.specs.declared.stop.Stop.TheVariants as stop
-use Rattle.guest_proc.specs.Begun.{AreMade, HasBegun}
+use Rattle.guest_proc.specs.Begun.{AreMade, BlockBegins, HasBegun}
 use Rattle.guest_proc.specs.Called.{CallDone}
 use Rattle.guest_proc.specs.Fresh.{AreFresh, AreMapped, block_in}
 use Rattle.guest_proc.specs.Kept.{IsReady, Keeps, StopsWell, image_at}
-use Rattle.guest_proc.specs.Process.{Advances, CallEnds, IsOneBlock, LacksRow, Process, RanBlock, WantsMemory, process, stop_at, stop_of, stop_with}
+use Rattle.guest_proc.specs.Process.{Advances, CallEnds, IsOneBlock, LacksRow, Process, RanBlock, WantsMemory, process, stop_at, stop_of, stop_with, trace}
 use Rattle.guest_proc.proofs.Kept.{fresh-begun, mapped-segments, one-more, segments-begun}
 
 -- ---- the begin
@@ -102,10 +104,12 @@ stops-well pool led pc (Err e) s io is = subst (λ x. StopsWell (Some x) io) (sa
 
 -- the begin is that of the ledger's definition
 pub begins-so : (scheme : Scheme) (p : Process) (tool : Tool) (max : ℕ) (isa : Isa) (m : Memory) (new : Ledger) → wants_room scheme.pool p.ledger p.state.cpu.pc ≡ false → (b : HasBegun tool max isa m p.state.cpu.pc p.ledger new) →
-    with_block scheme (Some b.block) p.ledger ≡ new
-begins-so scheme p tool max isa m new room b =
+    BlockBegins scheme b.block p.ledger new
+begins-so scheme p tool max isa m new room b maps units requests =
     let none : wants_room scheme.pool p.ledger b.block.address ≡ false = subst (λ x. wants_room scheme.pool p.ledger x ≡ false) (sym b.at) room in
-    ap (λ t. begun b.block (if t then flushed (all_offered (fin.keys p.ledger.segments) p.ledger) else p.ledger)) none ∙ sym b.ledger
+    let ledger : with_block scheme (Some b.block) p.ledger ≡ new = ap (λ t. begun b.block (if t then flushed (all_offered (fin.keys p.ledger.segments) p.ledger) else p.ledger)) none ∙ sym b.ledger in
+    let asks : requests ++ room_asks scheme (Some b.block) p.ledger ≡ requests = ap (λ t. requests ++ (if t then offers (fin.keys p.ledger.segments) p.ledger else [])) none ∙ append-nil requests in
+    ap (λ l. trace l maps units (requests ++ room_asks scheme (Some b.block) p.ledger)) ledger ∙ ap (trace new maps units) asks
 
 -- ---- a block was run
 
@@ -126,7 +130,7 @@ less_few a b c x y few less one = omega arith
 
 pub after-block : (scheme : Scheme) (cpu c : Cpu) (m after : Memory) (io : Io) (fuel rest : ℕ) (rows more : Rows) (led ready last : Ledger) (r : Ran) →
     IsReady scheme (process cpu m io fuel rows led) → scheme.tool ≡ rows.tool → stop_of scheme.pool (process cpu m io fuel rows led) ≡ None → HasBegun rows.tool scheme.max cpu.isa m cpu.pc led ready →
-    ((s : Scheme) (i : Io) (l : Ledger) (block : Parts) → s.tool ≡ rows.tool → s.max ≡ scheme.max → view ready cpu.pc ≡ Some block → with_block s (Some block) l ≡ ready → RanBlock s (process cpu m i fuel rows l) (process c after i rest more last) r) →
+    ((s : Scheme) (i : Io) (l : Ledger) (block : Parts) → s.tool ≡ rows.tool → s.max ≡ scheme.max → view ready cpu.pc ≡ Some block → BlockBegins s block l ready → RanBlock s (process cpu m i fuel rows l) (process c after i rest more last) r) →
     AreFresh rows.tool scheme.max c.isa after last → AreMapped after last → SameRegions m after → last.segments ≡ ready.segments → last.counts ≡ ready.counts → c.pc % 4 ≡ 0 → rest < fuel → ((key : ℕ) → count_at more.counts key + rest < 2 ^ 64) → more.tool ≡ rows.tool →
     AfterBlock scheme (process cpu m io fuel rows led) (process c after io rest more last) r
 after-block scheme cpu c m after io fuel rest rows more led ready last r was tool none b ran fresh mapped regions segments counts even less small same_tool =

@@ -5,7 +5,8 @@ ghost use Rattle.plain_machine.specs.Io.{Io};
 ghost use Rattle.fragment.specs.Parts.{Parts};
 ghost use Rattle.engine.specs.Standing.{SameRegions};
 ghost use Rattle.block_ledger.specs.Ledger.{Ledger, view};
-ghost use Rattle.block_ledger.specs.Traced.{Scheme, direct, with_block};
+ghost use Rattle.block_ledger.specs.Traced.{Scheme, direct};
+ghost use Rattle.guest_proc.specs.Begun.{BlockBegins};
 ghost use Rattle.guest_proc.specs.Fresh.{AreFresh, AreMapped};
 ghost use Rattle.guest_proc.specs.Process.{RanBlock, LacksRow, process};
 
@@ -37,7 +38,7 @@ pub fn run_ready<B: Book>(
     requires here { (B.ledger book.old).block ≡ cpu.old.pc }
     requires ready { (block : Parts) × (view (B.ledger book.old) cpu.old.pc ≡ Some block) }
     ensures ran { IfOk result (λ ran. (scheme : Scheme) (io : Io) (led : Ledger) (block : Parts) → scheme.tool ≡ report.old.tool → scheme.max ≡ max →
-        view (B.ledger book.old) cpu.old.pc ≡ Some block → with_block scheme (Some block) led ≡ B.ledger book.old →
+        view (B.ledger book.old) cpu.old.pc ≡ Some block → BlockBegins scheme block led (B.ledger book.old) →
         RanBlock scheme (process cpu.old mem.old io fuel.old report.old led) (process cpu.new mem.new io fuel.new report.new (B.ledger book.new)) ran) }
     ensures wants { OnErr result ((io : Io) → LacksRow (process cpu.old mem.old io fuel.old report.old (B.ledger book.old))) }
     ensures fresh { IfOk result (λ ran. AreFresh report.old.tool max cpu.new.isa mem.new (B.ledger book.new)) }

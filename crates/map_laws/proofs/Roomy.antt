@@ -1,38 +1,42 @@
 -- A run behind a full pool.
-use Rattle.std.proofs.Common.{◌≡◌, ℕ, zero, suc, ◌<◌, ◌==◌, ◌%◌, ◌⊎◌, ◌∷◌, ◌++◌, [], Bool, true, false, List, Option, Some, None, Result, Ok, Err, refl, sym, ◌∙◌, ap, subst, inl, inr, arith}
+use Rattle.std.proofs.Common.{◌≡◌, ℕ, zero, suc, ◌<◌, ◌==◌, ◌%◌, ◌⊎◌, ◌∷◌, ◌++◌, [], Bool, true, false, List, Option, Some, None, Result, Ok, Err, refl, sym, ◌∙◌, ap, subst, inl, inr, arith, append_assoc}
 use Rattle.std.specs.Prelude.{find, if◌then◌else◌}
 use Rattle.std.specs.FinMap as fin
 use Rattle.std.proofs.lemmas.Bool.{cases_Bool}
 use Rattle.std.proofs.lemmas.Bool.Decides.{nat_tests}
-use Rattle.std.proofs.lemmas.Option.{same_Some}
+use Rattle.std.proofs.lemmas.List.{append-nil}
+use Rattle.std.proofs.lemmas.Option.{same_Some, slice_get_past}
+use Rattle.rv_decode.specs.declared.ins.Isa.{Isa}
 use Rattle.cc_base.specs.Image.{Code}
 use Rattle.guest_mem.specs.Results.{Shows}
 use Rattle.plain_machine.specs.declared.access.Access.{Access}
 use Rattle.plain_machine.specs.declared.access.Access.TheVariants.{NotMapped}
 use Rattle.plain_machine.specs.declared.cpu.Done.TheVariants as done
-use Rattle.plain_machine.specs.declared.io.Asked.{Asked}
 use Rattle.plain_machine.specs.declared.io.Asked.TheVariants as asked
 use Rattle.plain_machine.specs.Region.{Area, bytes_at, holds}
 use Rattle.plain_machine.specs.Memory.{IsMemory, Memory, as_code, code_at, code_of, fetched, has_code, number_of, reach}
 use Rattle.plain_machine.specs.Step.{Outcome, step}
-use Rattle.plain_machine.specs.Calls.{Reply, called}
-use Rattle.plain_machine.specs.Machine.{State, Setting, Action, Unfetched, Ends, Goes, Maps, Unmaps, Replaces, action, action_at, is_done, replied, stepped, transition_by}
+use Rattle.plain_machine.specs.Calls.{Reply, called, is_module}
+use Rattle.plain_machine.specs.Program.{Program}
+use Rattle.plain_machine.specs.Machine.{State, Setting, Action, Unfetched, Ends, Goes, Maps, Unmaps, Replaces, action, action_at, base_at, is_done, program_in, replied, stepped, transition_by, unmap_from, unmap_module}
 use Rattle.plain_machine.specs.Run.{Run, run, run_behind}
 use Rattle.plain_machine.specs.Cut.{Marked, cut}
 use Rattle.plain_machine.proofs.RunLaws.{run-done, run-unfetched, run-zero}
 use Rattle.fragment.specs.Parts.{Parts}
 use Rattle.fragment.specs.Build.{block_of, built, has_word, size_at, words_at}
 use Rattle.engine.proofs.KeptCode.{holds-none}
-use Rattle.block_ledger.specs.Ledger.{wants_room, all_offered}
-use Rattle.block_ledger.specs.Traced.{Scheme, Trace, traced, after_word, built_in, on_ledger, with_block, block_at}
+use Rattle.block_ledger.specs.Ledger.{wants_room, all_offered, flushed, offered}
+use Rattle.block_ledger.specs.Requests.{Asking, AsksFile, MakesBe, asked_at, offer, offers}
+use Rattle.block_ledger.specs.Traced.{Scheme, Trace, traced, after_word, asking, beginning, block_at, built_in, mapped}
 use Rattle.block_ledger.specs.Traced as tr
 use Rattle.block_ledger.proofs.Room.{room, room-is-made}
 use Rattle.guest_proc.specs.declared.stop.Stop.{Stop}
 use Rattle.guest_proc.specs.declared.stop.Stop.TheVariants as stop
 use Rattle.guest_proc.specs.Process.{Comes, GoesOn, Process, RanOn, StopsIn, Went, nothing, stop_of, stop_with, trace}
 use Rattle.guest_proc.proofs.Beginning.{code-there}
-use Rattle.guest_proc.proofs.More.{went-both}
-use Rattle.map_laws.specs.Room.{RoomGoesOn, RoomIsThere, roomy}
+use Rattle.guest_proc.specs.Maps.{put_to}
+use Rattle.guest_proc.proofs.More.{stops-both, went-both}
+use Rattle.map_laws.specs.Room.{AllAreOffered, OfferingBegins, OneMoreOffered, RoomGoesOn, RoomIsThere, room_made, roomy}
 
 -- ---- what a full pool tells
 
@@ -69,8 +73,8 @@ roomy_none : (pool : ℕ) (p : Process) → 0 < pool → IsFull pool p → stop_
 roomy_none pool p big full = none_before pool (roomy p) full.some full.word (fits_then pool p big)
 
 -- a run that came to a full pool may go on from there
-came_full : (scheme : Scheme) (first p : Process) → RanOn scheme first p stop.PoolFull → GoesOn scheme first p × IsFull scheme.pool p
-came_full scheme first p ran = elim ran.comes [
+came_full : (scheme : Scheme) (made : List Asking) (first p : Process) → RanOn scheme made first p stop.PoolFull → GoesOn scheme made first p × IsFull scheme.pool p
+came_full scheme made first p ran = elim ran.comes [
   | inl before ↦ (before.0, is_full scheme.pool p before.1)
   | inr within ↦ absurd within
 ]
@@ -170,9 +174,9 @@ abbrev pub any : Setting
 any = record { bases = []; files = [] }
 
 -- it begins a block at the state
-cut_first : (scheme : Scheme) (q new : Process) (change : Setting → Trace → Trace) (behind : Setting → List ℕ → Marked) → (g : Went scheme q new change behind) → (q.fuel == 0) ≡ false →
+cut_first : (scheme : Scheme) (made : List Asking) (q new : Process) (change : Setting → Trace → Trace) (behind : Setting → List ℕ → Marked) → (g : Went scheme made q new change behind) → (q.fuel == 0) ≡ false →
     ((word : ℕ) × (fetched q.state.memory q.state.cpu.pc ≡ Ok word)) → (rest : List (State × Bool)) × ((q.state, true) ∷ rest ≡ g.marks ++ (behind any []).marks)
-cut_first scheme q new change behind g some word =
+cut_first scheme made q new change behind g some word =
     let head = head_there any q.fuel q.state some word in
     (_, sym (ap (cut scheme.max 0 None) head.1) ∙ ap (λ (m : Marked). m.marks) (g.seen any []))
 
@@ -182,58 +186,80 @@ marks_of (x ∷ xs) = inr (x, (xs, refl))
 
 -- ---- behind a full pool
 
-same_begin : (scheme : Scheme) (p : Process) → 0 < scheme.pool → IsMemory p.state.memory → p.state.cpu.pc % 4 ≡ 0 → IsFull scheme.pool p →
-    with_block scheme (block_at scheme p.state) p.ledger ≡ with_block scheme (block_at scheme p.state) (roomy p).ledger
-same_begin scheme p big good aligned full =
+same_begin : (scheme : Scheme) (p : Process) (maps : List ℕ) (units : List (List ℕ)) (requests : List Asking) → 0 < scheme.pool → IsMemory p.state.memory → p.state.cpu.pc % 4 ≡ 0 → IsFull scheme.pool p →
+    beginning scheme (block_at scheme p.state) (trace p.ledger maps units requests) ≡ beginning scheme (block_at scheme p.state) (trace (roomy p).ledger maps units (requests ++ room_made p))
+same_begin scheme p maps units requests big good aligned full =
     let b = block_by scheme p.state (code_at p.state.memory p.state.cpu.pc) good aligned full.word refl in
     let wants : wants_room scheme.pool p.ledger b.0.address ≡ true = subst (λ a. wants_room scheme.pool p.ledger a ≡ true) (sym b.1.1) full.wants in
-    let made = sym (room-is-made scheme b.0 p.ledger big wants) in
-    ap (λ o. with_block scheme o p.ledger) b.1.0 ∙ made ∙ sym (ap (λ o. with_block scheme o (roomy p).ledger) b.1.0)
+    let made = sym (room-is-made scheme b.0 (trace p.ledger maps units requests) big wants) in
+    ap (λ o. beginning scheme o (trace p.ledger maps units requests)) b.1.0 ∙ made ∙ sym (ap (λ o. beginning scheme o (trace (roomy p).ledger maps units (requests ++ room_made p))) b.1.0)
 
-first_same : (w : Setting) (scheme : Scheme) (p : Process) (maps : List ℕ) (units : List (List ℕ)) (calls : List Asked) →
-    with_block scheme (block_at scheme p.state) p.ledger ≡ with_block scheme (block_at scheme p.state) (roomy p).ledger →
-    tr.after w scheme (p.state, true) (trace p.ledger maps units calls) ≡ tr.after w scheme (p.state, true) (trace (roomy p).ledger maps units calls)
-first_same w scheme p maps units calls e = ap (λ l. after_word w scheme p.state (fetched p.state.memory p.state.cpu.pc) (trace l maps units calls)) e
+first_same : (w : Setting) (scheme : Scheme) (p : Process) (maps : List ℕ) (units : List (List ℕ)) (requests : List Asking) → 0 < scheme.pool → IsMemory p.state.memory → p.state.cpu.pc % 4 ≡ 0 → IsFull scheme.pool p →
+    tr.after w scheme (p.state, true) (trace p.ledger maps units requests) ≡ tr.after w scheme (p.state, true) (trace (roomy p).ledger maps units (requests ++ room_made p))
+first_same w scheme p maps units requests big good aligned full =
+    ap (after_word w scheme p.state (fetched p.state.memory p.state.cpu.pc)) (same_begin scheme p maps units requests big good aligned full)
 
-went_room : (scheme : Scheme) (p new : Process) (change : Setting → Trace → Trace) (behind : Setting → List ℕ → Marked) → 0 < scheme.pool → IsMemory p.state.memory → p.state.cpu.pc % 4 ≡ 0 → IsFull scheme.pool p →
-    (g : Went scheme (roomy p) new change behind) → (g.marks ≡ [] → ⊥) → Went scheme p new change behind
-went_room scheme p new change behind big good aligned full g some = elim (marks_of g.marks) [
+went_room : (scheme : Scheme) (more : List Asking) (p new : Process) (change : Setting → Trace → Trace) (behind : Setting → List ℕ → Marked) → 0 < scheme.pool → IsMemory p.state.memory → p.state.cpu.pc % 4 ≡ 0 → IsFull scheme.pool p →
+    (g : Went scheme more (roomy p) new change behind) → (g.marks ≡ [] → ⊥) → Went scheme (room_made p ++ more) p new change behind
+went_room scheme more p new change behind big good aligned full g some = elim (marks_of g.marks) [
   | inl none ↦ absurd (some none)
   | inr one ↦
       let xs : List (State × Bool) = one.1.0 in
-      let first = cut_first scheme (roomy p) new change behind g full.some full.word in
+      let first = cut_first scheme more (roomy p) new change behind g full.some full.word in
       let at : one.0 ≡ (p.state, true) = sym (firsts (p.state, true) one.0 first.0 (xs ++ (behind any []).marks) (first.1 ∙ ap (λ ms. ms ++ (behind any []).marks) one.1.1)) in
       let is : g.marks ≡ (p.state, true) ∷ xs = one.1.1 ∙ ap (λ x. x ∷ xs) at in
-      let begins = same_begin scheme p big good aligned full in
       record {
         marks = g.marks;
         seen = g.seen;
         counted = g.counted;
-        ledger = λ w maps units calls.
-            ap (λ ms. traced w scheme ms (trace p.ledger maps units calls)) is ∙ ap (traced w scheme xs) (first_same w scheme p maps units calls begins)
-            ∙ sym (ap (λ ms. traced w scheme ms (trace (roomy p).ledger maps units calls)) is) ∙ g.ledger w maps units calls;
+        ledger = λ w maps units requests.
+            ap (λ ms. traced w scheme ms (trace p.ledger maps units requests)) is
+            ∙ ap (traced w scheme xs) (first_same w scheme p maps units requests big good aligned full)
+            ∙ sym (ap (λ ms. traced w scheme ms (trace (roomy p).ledger maps units (requests ++ room_made p))) is)
+            ∙ g.ledger w maps units (requests ++ room_made p)
+            ∙ ap (λ rs. change w (trace new.ledger maps units rs)) (append_assoc requests (room_made p) more);
       }
 ]
 
 -- ---- a block was run
 
-ends_some : (scheme : Scheme) (q new : Process) (change : Setting → Trace → Trace) (behind : Setting → List ℕ → Marked) → (g : Went scheme q new change behind) → (q.fuel == 0) ≡ false →
+ends_some : (scheme : Scheme) (made : List Asking) (q new : Process) (change : Setting → Trace → Trace) (behind : Setting → List ℕ → Marked) → (g : Went scheme made q new change behind) → (q.fuel == 0) ≡ false →
     ((word : ℕ) × (fetched q.state.memory q.state.cpu.pc ≡ Ok word)) → (behind any []).marks ≡ [] → g.marks ≡ [] → ⊥
-ends_some scheme q new change behind g some word over none =
-    let first = cut_first scheme q new change behind g some word in
+ends_some scheme made q new change behind g some word over none =
+    let first = cut_first scheme made q new change behind g some word in
     let empty : g.marks ++ (behind any []).marks ≡ [] = ap (λ ms. ms ++ (behind any []).marks) none ∙ over in
     let wrong : (q.state, true) ∷ first.0 ≡ [] = first.1 ∙ empty in absurd (cc)
 
-calls_some : (scheme : Scheme) (q new : Process) (change : Setting → Trace → Trace) (behind : Setting → List ℕ → Marked) (a : Asked) → (g : Went scheme q new change behind) →
-    (change any (trace new.ledger [] [] [])).calls ≡ a ∷ [] → g.marks ≡ [] → ⊥
-calls_some scheme q new change behind a g one none =
-    let e = sym (ap (λ ms. traced any scheme ms (trace q.ledger [] [] [])) none) ∙ g.ledger any [] [] [] in
-    let wrong : [] ≡ a ∷ [] = ap (λ (t : Trace). t.calls) e ∙ one in absurd (cc)
+not_empty : (xs : List Asking) (a : Asking) → [] ≡ xs ++ a ∷ [] → ⊥
+not_empty [] a e = cc
+not_empty (x ∷ xs) a e = cc
 
-goes_some : (scheme : Scheme) (q new : Process) (s : Stop) → (g : GoesOn scheme q new) → (q.fuel == 0) ≡ false → ((word : ℕ) × (fetched q.state.memory q.state.cpu.pc ≡ Ok word)) →
+-- a call that makes a request of its own
+asks_some : (scheme : Scheme) (made : List Asking) (q new : Process) (change : Setting → Trace → Trace) (behind : Setting → List ℕ → Marked) (a : Asking) → (g : Went scheme made q new change behind) →
+    (change any (trace new.ledger [] [] made)).requests ≡ made ++ a ∷ [] → g.marks ≡ [] → ⊥
+asks_some scheme made q new change behind a g one none =
+    let e = sym (ap (λ ms. traced any scheme ms (trace q.ledger [] [] [])) none) ∙ g.ledger any [] [] [] in
+    not_empty made a (ap (λ (t : Trace). t.requests) e ∙ one)
+
+no_base : (k : ℕ) → base_at any k ≡ None
+no_base k = slice_get_past [] k (omega arith)
+
+map_asks : (scheme : Scheme) (isa : Isa) (k : ℕ) (m : Memory) (t : Trace) → (mapped any scheme isa k (base_at any k) m (asking (AsksFile k) t)).requests ≡ t.requests ++ asked_at t.ledger.counts.blocks (AsksFile k) ∷ []
+map_asks scheme isa k m t = ap (λ o. (mapped any scheme isa k o m (asking (AsksFile k) t)).requests) (no_base k)
+
+-- an unmapping, where no module is known
+unmap_stuck : (s : State) (fuel k : ℕ) (o : Option ℕ) (p : Option Program) → o ≡ None → (run_behind any fuel s (unmap_from s k [] o p)).states ≡ []
+unmap_stuck s fuel k None None e = refl
+unmap_stuck s fuel k None (Some program) e = refl
+unmap_stuck s fuel k (Some base) p e = absurd (cc)
+
+unmap_over : (max : ℕ) (s : State) (fuel k : ℕ) → cut max 0 None (run_behind any fuel s (unmap_module any s k [])).states ≡ []
+unmap_over max s fuel k = ap (cut max 0 None) (unmap_stuck s fuel k (base_at any k) (program_in any (find (is_module k) s.io.mapped)) (no_base k))
+
+goes_some : (scheme : Scheme) (made : List Asking) (q new : Process) (s : Stop) → (g : GoesOn scheme made q new) → (q.fuel == 0) ≡ false → ((word : ℕ) × (fetched q.state.memory q.state.cpu.pc ≡ Ok word)) →
     wants_room scheme.pool q.ledger q.state.cpu.pc ≡ false → stop_of scheme.pool new ≡ Some s → g.marks ≡ [] → ⊥
-goes_some scheme q new s g some word fits stops none =
-    let first = cut_first scheme q new nothing _ g some word in
+goes_some scheme made q new s g some word fits stops none =
+    let first = cut_first scheme made q new nothing _ g some word in
     let there : cut scheme.max 0 None (run any new.fuel [] new.state).states ≡ (q.state, true) ∷ first.0 = sym (first.1 ∙ ap (λ ms. ms ++ cut scheme.max 0 None (run any new.fuel [] new.state).states) none) in
     let states = cut_from scheme.max (run any new.fuel [] new.state).states q.state first.0 there in
     let head = head_is any new.fuel new.state q.state states.0 states.1 in
@@ -242,51 +268,67 @@ goes_some scheme q new s g some word fits stops none =
     let word' : (word : ℕ) × (fetched new.state.memory new.state.cpu.pc ≡ Ok word) = (word.0, ap (λ (x : State). fetched x.memory x.cpu.pc) head.0 ∙ word.1) in
     let wrong : None ≡ Some s = sym (none_before scheme.pool new head.1 word' fits') ∙ stops in absurd (cc)
 
-stops_room : (scheme : Scheme) (p new : Process) (s : Stop) → 0 < scheme.pool → IsMemory p.state.memory → p.state.cpu.pc % 4 ≡ 0 → IsFull scheme.pool p → StopsIn scheme (roomy p) new s → StopsIn scheme p new s
-stops_room scheme p new (stop.Ended end) big good aligned full g = went_room scheme p new nothing _ big good aligned full g (ends_some scheme (roomy p) new nothing _ g full.some full.word refl)
-stops_room scheme p new (stop.Map k) big good aligned full g = went_room scheme p new _ _ big good aligned full g (calls_some scheme (roomy p) new _ _ (asked.Map k) g refl)
-stops_room scheme p new (stop.Unmap k) big good aligned full g = went_room scheme p new _ _ big good aligned full g (calls_some scheme (roomy p) new _ _ (asked.Unmap k) g refl)
-stops_room scheme p new (stop.Replace k f) big good aligned full g = went_room scheme p new _ _ big good aligned full g (calls_some scheme (roomy p) new _ _ (asked.Replace k f) g refl)
-stops_room scheme p new stop.PoolFull big good aligned full g = absurd g
+stops_room : (scheme : Scheme) (more : List Asking) (p new : Process) (s : Stop) → 0 < scheme.pool → IsMemory p.state.memory → p.state.cpu.pc % 4 ≡ 0 → IsFull scheme.pool p → StopsIn scheme more (roomy p) new s → StopsIn scheme (room_made p ++ more) p new s
+stops_room scheme more p new (stop.Ended end) big good aligned full g =
+    went_room scheme more p new nothing _ big good aligned full g (ends_some scheme more (roomy p) new nothing _ g full.some full.word refl)
+stops_room scheme more p new (stop.Map k) big good aligned full g =
+    went_room scheme more p new _ _ big good aligned full g
+    (asks_some scheme more (roomy p) new _ _ (asked_at new.ledger.counts.blocks (AsksFile k)) g (map_asks scheme new.state.cpu.isa k new.state.memory (trace new.ledger [] [] more)))
+stops_room scheme more p new (stop.Unmap k) big good aligned full g =
+    went_room scheme more p new _ _ big good aligned full g (ends_some scheme more (roomy p) new _ _ g full.some full.word (unmap_over scheme.max new.state new.fuel k))
+stops_room scheme more p new (stop.Replace k f) big good aligned full g =
+    went_room scheme more p new _ _ big good aligned full g (asks_some scheme more (roomy p) new _ _ (asked_at new.ledger.counts.blocks (MakesBe k f)) g refl)
+stops_room scheme more p new stop.PoolFull big good aligned full g = absurd g
 
-comes_room : (scheme : Scheme) (p new : Process) (s : Stop) → 0 < scheme.pool → IsMemory p.state.memory → p.state.cpu.pc % 4 ≡ 0 → IsFull scheme.pool p → Comes scheme (roomy p) new s → Comes scheme p new s
-comes_room scheme p new s big good aligned full (inl before) =
-    inl (went_room scheme p new nothing _ big good aligned full before.0 (goes_some scheme (roomy p) new s before.0 full.some full.word (fits_then scheme.pool p big) before.1), before.1)
-comes_room scheme p new s big good aligned full (inr within) = inr (stops_room scheme p new s big good aligned full within)
+comes_room : (scheme : Scheme) (more : List Asking) (p new : Process) (s : Stop) → 0 < scheme.pool → IsMemory p.state.memory → p.state.cpu.pc % 4 ≡ 0 → IsFull scheme.pool p → Comes scheme more (roomy p) new s → Comes scheme (room_made p ++ more) p new s
+comes_room scheme more p new s big good aligned full (inl before) =
+    inl (went_room scheme more p new nothing _ big good aligned full before.0 (goes_some scheme more (roomy p) new s before.0 full.some full.word (fits_then scheme.pool p big) before.1), before.1)
+comes_room scheme more p new s big good aligned full (inr within) = inr (stops_room scheme more p new s big good aligned full within)
 
 -- what was run before comes first
-stops_behind : (scheme : Scheme) (old mid new : Process) (s : Stop) → GoesOn scheme old mid → StopsIn scheme mid new s → StopsIn scheme old new s
-stops_behind scheme old mid new (stop.Ended end) a b = went-both scheme old mid new nothing _ a b
-stops_behind scheme old mid new (stop.Map k) a b = went-both scheme old mid new _ _ a b
-stops_behind scheme old mid new (stop.Unmap k) a b = went-both scheme old mid new _ _ a b
-stops_behind scheme old mid new (stop.Replace k f) a b = went-both scheme old mid new _ _ a b
-stops_behind scheme old mid new stop.PoolFull a b = absurd b
-
-comes_behind : (scheme : Scheme) (old mid new : Process) (s : Stop) → GoesOn scheme old mid → Comes scheme mid new s → Comes scheme old new s
-comes_behind scheme old mid new s a (inl on) = inl (went-both scheme old mid new nothing _ a on.0, on.1)
-comes_behind scheme old mid new s a (inr within) = inr (stops_behind scheme old mid new s a within)
+comes_behind : (scheme : Scheme) (made more : List Asking) (old mid new : Process) (s : Stop) → GoesOn scheme made old mid → Comes scheme more mid new s → Comes scheme (made ++ more) old new s
+comes_behind scheme made more old mid new s a (inl on) = inl (went-both scheme made more old mid new nothing _ a on.0, on.1)
+comes_behind scheme made more old mid new s a (inr within) = inr (stops-both scheme made more old mid new s a within)
 
 -- ---- fuel
 
-less_behind : (scheme : Scheme) (p new : Process) (s : Stop) → 0 < scheme.pool → IsFull scheme.pool p → RanOn scheme (roomy p) new s → new.fuel < p.fuel
-less_behind scheme p new s big full ran = elim ran.spends [
+less_behind : (scheme : Scheme) (more : List Asking) (p new : Process) (s : Stop) → 0 < scheme.pool → IsFull scheme.pool p → RanOn scheme more (roomy p) new s → new.fuel < p.fuel
+less_behind scheme more p new s big full ran = elim ran.spends [
   | inl first ↦ let wrong : None ≡ Some s = sym (roomy_none scheme.pool p big full) ∙ first.1 in absurd (cc)
   | inr less ↦ less
 ]
 
-less_before : (scheme : Scheme) (first p new : Process) → RanOn scheme first p stop.PoolFull → new.fuel < p.fuel → new.fuel < first.fuel
-less_before scheme first p new ran less = elim ran.spends [
+less_before : (scheme : Scheme) (made : List Asking) (first p new : Process) → RanOn scheme made first p stop.PoolFull → new.fuel < p.fuel → new.fuel < first.fuel
+less_before scheme made first p new ran less = elim ran.spends [
   | inl same ↦ subst (λ (q : Process). new.fuel < q.fuel) same.0 less
   | inr before ↦ omega (arith, before, less)
 ]
 
 pub room-goes-on : RoomGoesOn
-room-goes-on scheme first p new s big good aligned to ran =
-    let full = came_full scheme first p to in
+room-goes-on scheme made more first p new s big good aligned to ran =
+    let full = came_full scheme made first p to in
     record {
-      comes = comes_behind scheme first p new s full.0 (comes_room scheme p new s big good aligned full.1 ran.comes);
-      spends = inr (less_before scheme first p new to (less_behind scheme p new s big full.1 ran));
+      comes = comes_behind scheme made (room_made p ++ more) first p new s full.0 (comes_room scheme more p new s big good aligned full.1 ran.comes);
+      spends = inr (less_before scheme made first p new to (less_behind scheme more p new s big full.1 ran));
     }
 
 pub room-is-there : RoomIsThere
-room-is-there scheme first p big to = roomy_none scheme.pool p big (came_full scheme first p to).1
+room-is-there scheme made first p big to = roomy_none scheme.pool p big (came_full scheme made first p to).1
+
+-- ---- one segment after the other
+
+pub offering-begins : OfferingBegins
+offering-begins p = record { same = refl; ledger = refl; requests = refl }
+
+pub one-more-offered : OneMoreOffered
+one-more-offered i is made p now a = record {
+  same = ap (λ (q : Process). put_to q q.state (offered i now.ledger)) a.same;
+  ledger = a.ledger;
+  requests = append_assoc made (offer i now.ledger) (offers is (offered i now.ledger)) ∙ a.requests;
+}
+
+pub all-are-offered : AllAreOffered
+all-are-offered made p now a = record {
+  becomes = ap (λ (q : Process). put_to q q.state (flushed now.ledger)) a.same ∙ ap (λ l. put_to p p.state (flushed l)) a.ledger;
+  requests = sym (append-nil made) ∙ a.requests;
+}

@@ -12,6 +12,7 @@ use Rattle.plain_machine.specs.Run.{run, ended}
 use Rattle.plain_machine.specs.Cut.{marked, with_marks}
 use Rattle.plain_machine.proofs.RunLaws.{run-zero, run-unfetched}
 use Rattle.block_ledger.specs.Ledger.{wants_room}
+use Rattle.block_ledger.specs.Requests.{Asking}
 use Rattle.block_ledger.specs.Traced.{Scheme}
 use Rattle.guest_proc.specs.declared.stop.Stop.{Stop}
 use Rattle.guest_proc.specs.declared.stop.Stop.TheVariants as stop
@@ -41,9 +42,9 @@ before-nothing pool p = elim (cases_Bool (p.fuel == 0)) [
 ]
 
 -- a stop that is to be answered comes in a block
-pub comes-asking : (scheme : Scheme) (old new : Process) (s : Stop) → (AsksNothing (Some s) → ⊥) → Comes scheme old new s → StopsIn scheme old new s
-comes-asking scheme old new s asks (inl before) = absurd (asks (subst AsksNothing before.1 (before-nothing scheme.pool new)))
-comes-asking scheme old new s asks (inr within) = within
+pub comes-asking : (scheme : Scheme) (made : List Asking) (old new : Process) (s : Stop) → (AsksNothing (Some s) → ⊥) → Comes scheme made old new s → StopsIn scheme made old new s
+comes-asking scheme made old new s asks (inl before) = absurd (asks (subst AsksNothing before.1 (before-nothing scheme.pool new)))
+comes-asking scheme made old new s asks (inr within) = within
 
 -- ---- an end
 
@@ -75,14 +76,14 @@ end_at pool (suc fuel) p end is e w answers =
     let e' : stop_with pool p (fetched p.state.memory p.state.cpu.pc) ≡ Some (stop.Ended end) = rw some at e in
     with_end pool fuel p end (fetched p.state.memory p.state.cpu.pc) refl e' w answers
 
-ended_before : (scheme : Scheme) (old new : Process) (end : End) → GoesOn scheme old new → stop_of scheme.pool new ≡ Some (stop.Ended end) → StopsIn scheme old new (stop.Ended end)
-ended_before scheme old new end g e = record {
+ended_before : (scheme : Scheme) (made : List Asking) (old new : Process) (end : End) → GoesOn scheme made old new → stop_of scheme.pool new ≡ Some (stop.Ended end) → StopsIn scheme made old new (stop.Ended end)
+ended_before scheme made old new end g e = record {
   marks = g.marks;
   seen = λ w answers. g.seen w answers ∙ ap (λ r. with_marks g.marks (marked scheme.max r)) (end_at scheme.pool new.fuel new end refl e w answers);
   counted = g.counted;
   ledger = g.ledger;
 }
 
-pub comes-ended : (scheme : Scheme) (old new : Process) (end : End) → Comes scheme old new (stop.Ended end) → StopsIn scheme old new (stop.Ended end)
-comes-ended scheme old new end (inl before) = ended_before scheme old new end before.0 before.1
-comes-ended scheme old new end (inr within) = within
+pub comes-ended : (scheme : Scheme) (made : List Asking) (old new : Process) (end : End) → Comes scheme made old new (stop.Ended end) → StopsIn scheme made old new (stop.Ended end)
+comes-ended scheme made old new end (inl before) = ended_before scheme made old new end before.0 before.1
+comes-ended scheme made old new end (inr within) = within

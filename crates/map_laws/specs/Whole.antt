@@ -1,14 +1,16 @@
 -- The whole run of a guest by a process.
-use Rattle.std.specs.Prelude.{◌≡◌, ℕ, List, ◌∷◌, ◌++◌, length, slice_get, Some}
+use Rattle.std.specs.Prelude.{◌≡◌, ℕ, List, [], ◌∷◌, ◌++◌, length, slice_get, Some}
 use Rattle.std.specs.FinMap as fin
+use Rattle.cc_base.specs.Image.{Code}
 use Rattle.plain_machine.specs.declared.ends.End.{End}
-use Rattle.plain_machine.specs.declared.io.Asked.{Asked}
 use Rattle.plain_machine.specs.Program.{Program}
 use Rattle.plain_machine.specs.Machine.{Setting, Guest, base_at, file_at, start}
 use Rattle.plain_machine.specs.Plain.{IsPlainRun}
-use Rattle.block_ledger.specs.Ledger.{new_ledger}
-use Rattle.block_ledger.specs.Traced.{Scheme, all_attached, codes_of, run_trace}
+use Rattle.block_ledger.specs.Ledger.{new_ledger, offered}
+use Rattle.block_ledger.specs.Requests.{Asking, AsksFile, asked_at, parting, partings, unit_asks}
+use Rattle.block_ledger.specs.Traced.{Scheme, all_attached, closed, codes_of, run_trace}
 use Rattle.guest_proc.specs.declared.stop.Stop.TheVariants as stop
+use Rattle.guest_proc.specs.Maps.{put_to}
 use Rattle.guest_proc.specs.Process.{Process, Comes}
 use Rattle.map_laws.specs.Came.{Goes}
 use Rattle.map_laws.specs.Own.{answers_to}
@@ -27,13 +29,40 @@ pub record IsFirst (w : Setting) (scheme : Scheme) (g : Guest) (files : List ℕ
   pub size : length units ≡ length (codes_of program base)
   pub ledger : first.ledger ≡ all_attached scheme g.isa g.program 0 (codes_of program base) units new_ledger
 
--- The guest's plain run with these map answers ends so and is counted so, and the process has its ledger.
-pub record IsRunBy (w : Setting) (scheme : Scheme) (g : Guest) (files maps : List ℕ) (units : List (List ℕ)) (end : End) (new : Process) : Type 0 where
+-- what was asked before it: the file of module k, which is f, and the units of these segments
+abbrev pub first_asks : ℕ → ℕ → List Code → List Asking
+first_asks k f codes = asked_at 0 (AsksFile k) ∷ unit_asks k f 0 codes 0
+
+-- The guest's plain run with these map answers ends so and is counted so; the process has its ledger; and these requests
+-- were made up to its end.
+pub record IsRunBy (w : Setting) (scheme : Scheme) (g : Guest) (files maps : List ℕ) (units : List (List ℕ)) (requests : List Asking) (end : End) (new : Process) : Type 0 where
   pub plain : IsPlainRun w g scheme.tool scheme.max files maps end new.state.io.output new.report.counts
   pub ledger : (run_trace w scheme g maps units).ledger ≡ new.ledger
+  pub asked : (run_trace w scheme g maps units).requests ≡ requests
 
--- A run that was answered as its own calls say is, at its end, the guest's whole run.
+-- A run that was answered as its own requests say is, at its end, the guest's whole run.
 abbrev pub EndIsWhole : Type 0
-EndIsWhole = (w : Setting) (scheme : Scheme) (g : Guest) (files : List ℕ) (f : ℕ) (before units : List (List ℕ)) (calls : List Asked) (first mid new : Process) (end : End) →
-    IsFirst w scheme g files f before first → Goes w scheme (answers_to w files calls) units calls first mid → Comes scheme mid new (stop.Ended end) →
-    IsRunBy w scheme g files (f ∷ answers_to w files calls) (before ++ units) end new
+EndIsWhole = (w : Setting) (scheme : Scheme) (g : Guest) (files : List ℕ) (f : ℕ) (maps : List ℕ) (before units : List (List ℕ)) (requests made : List Asking) (first mid new : Process) (end : End) →
+    (s : IsFirst w scheme g files f before first) → Goes w scheme maps units requests first mid → Comes scheme made mid new (stop.Ended end) → maps ≡ answers_to w files (requests ++ made) →
+    IsRunBy w scheme g files (f ∷ maps) (before ++ units) (first_asks g.program f (codes_of s.program s.base) ++ (requests ++ made)) end new
+
+-- ---- behind the end, one segment after the other
+
+-- At the end of this run these requests were made, and these segments are still to be let go.
+abbrev pub Closes : Setting → Scheme → Guest → List ℕ → List (List ℕ) → List ℕ → List Asking → Process → Type 0
+Closes w scheme g maps units is requests new = (closed (run_trace w scheme g maps units)).requests ≡ requests ++ partings is new.ledger
+
+-- first they are all attached ones
+abbrev pub ClosingBegins : Type 0
+ClosingBegins = (w : Setting) (scheme : Scheme) (g : Guest) (files maps : List ℕ) (units : List (List ℕ)) (requests : List Asking) (end : End) (new : Process) →
+    IsRunBy w scheme g files maps units requests end new → Closes w scheme g maps units (fin.keys new.ledger.segments) requests new
+
+-- the next one is offered its candidates, and is let go
+abbrev pub OneMoreLetGo : Type 0
+OneMoreLetGo = (w : Setting) (scheme : Scheme) (g : Guest) (maps : List ℕ) (units : List (List ℕ)) (i : ℕ) (is : List ℕ) (requests : List Asking) (new : Process) →
+    Closes w scheme g maps units (i ∷ is) requests new → Closes w scheme g maps units is (requests ++ parting i new.ledger) (put_to new new.state (offered i new.ledger))
+
+-- then these are all that the guest asks
+abbrev pub AllAreLetGo : Type 0
+AllAreLetGo = (w : Setting) (scheme : Scheme) (g : Guest) (maps : List ℕ) (units : List (List ℕ)) (requests : List Asking) (new : Process) →
+    Closes w scheme g maps units [] requests new → (closed (run_trace w scheme g maps units)).requests ≡ requests

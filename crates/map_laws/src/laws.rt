@@ -1,7 +1,8 @@
 //! What holds of the definitions, as contracts.
-ghost use Rattle.map_laws.specs.Laws.{MapIsAnswered, MapIsRefused, MapIsUnknown, MapWaits, OffersGo, OneMoreAttached, PlacedAttaches, ReplaceIsAnswered, ReplaceWaits, UnmapIsAnswered, UnmapWaits};
-ghost use Rattle.map_laws.specs.Room.{RoomGoesOn, RoomIsThere};
-ghost use Rattle.map_laws.specs.Whole.{EndIsWhole};
+ghost use Rattle.map_laws.specs.Laws.{MapIsAnswered, MapIsRefused, MapIsUnknown, MapWaits, OneMoreAttached, OneMoreLeaves, PlacedAttaches, ReplaceIsAnswered, ReplaceWaits, UnmapIsAnswered, UnmapLeaves, UnmapWaits};
+ghost use Rattle.map_laws.specs.Own.{OffersTakeNone, PartingsTakeNone, UnitsTakeNone};
+ghost use Rattle.map_laws.specs.Room.{AllAreOffered, OfferingBegins, OneMoreOffered, RoomGoesOn, RoomIsThere};
+ghost use Rattle.map_laws.specs.Whole.{AllAreLetGo, ClosingBegins, EndIsWhole, OneMoreLetGo};
 
 /// A stop at a map call waits for its answer.
 pub fn stops_wait()
@@ -20,9 +21,10 @@ pub fn a_map_call_is_answered()
     ensures unknown { MapIsUnknown }
 {}
 
-/// The module goes, and with it what was offered to its units.
+/// The module's segments are offered their candidates and let go one by one, and then it goes.
 pub fn an_unmap_call_is_answered()
-    ensures offers { OffersGo }
+    ensures leaves { UnmapLeaves }
+    ensures more { OneMoreLeaves }
     ensures answered { UnmapIsAnswered }
 {}
 
@@ -31,13 +33,30 @@ pub fn a_replace_call_is_answered()
     ensures { ReplaceIsAnswered }
 {}
 
-/// Once room was made the run goes on as it would have.
+/// Once room was made the run goes on as it would have. It is made by an offer to one segment after the other, and a flush.
 pub fn a_full_pool_is_answered()
     ensures goes { RoomGoesOn }
     ensures there { RoomIsThere }
+    ensures begins { OfferingBegins }
+    ensures more { OneMoreOffered }
+    ensures made { AllAreOffered }
 {}
 
-/// At the end the run is the guest's plain run, and the ledger is that of its states.
+/// Only asking for a file takes a map answer, and only a replacement makes a module another file.
+pub fn other_requests_take_none()
+    ensures offers { OffersTakeNone }
+    ensures partings { PartingsTakeNone }
+    ensures units { UnitsTakeNone }
+{}
+
+/// At the end the run is the guest's plain run, and ledger and requests are those of its states.
 pub fn the_end_is_the_whole_runs()
     ensures { EndIsWhole }
+{}
+
+/// Behind the end one segment after the other is offered its candidates and let go; then all is asked that the guest asks.
+pub fn the_end_is_closed()
+    ensures begins { ClosingBegins }
+    ensures more { OneMoreLetGo }
+    ensures closed { AllAreLetGo }
 {}

@@ -51,7 +51,7 @@ returns-in-Exit-clause-ran g c = λ scheme io led block tool_is max_is is begun.
     ran-block scheme c.args.max c.in-Some.block.now block c.args.fuel.now c.run_block.new.fuel c.args.cpu.now c.run_block.new.cpu c.args.mem.now c.run_block.new.mem io c.in_ok-left.left (lefts.Exit c.in-Exit.e) c.args.report.now c.run_block.new.report led
     (g.B.Book.ledger c.args.book.now) (g.B.Book.ledger c.leave.new.self) (nothing) c.requires.some tool_is max_is c.laws.ensures there (same_Some c.in-Some.block.now block (sym seen ∙ is)) begun
     (λ k i. c.in_ok-left.ensures.runs k i) c.in-Exit.is c.in_ok-left.ensures.report
-    (λ w maps units calls. ap (λ l. trace l maps units calls) (sym (c.leave.ensures ∙ ap (λ e. left_by e (g.B.Book.ledger c.args.book.now)) (c.direct-exit.ensures ∙ ap (direct c.in-Exit.e) c.exits.ensures))))
+    (λ w maps units requests. ap (λ l. trace l maps units requests) (sym (c.leave.ensures ∙ ap (λ e. left_by e (g.B.Book.ledger c.args.book.now)) (c.direct-exit.ensures ∙ ap (direct c.in-Exit.e) c.exits.ensures))))
 
 pub returns-in-Touched-clause-ran : goal.returns-in-Touched-clause-ran
 returns-in-Touched-clause-ran g c = λ scheme io led block tool_is max_is is begun.
@@ -60,7 +60,7 @@ returns-in-Touched-clause-ran g c = λ scheme io led block tool_is max_is is beg
     ran-block scheme c.args.max c.in-Some.block.now block c.args.fuel.now c.run_block.new.fuel c.args.cpu.now c.run_block.new.cpu c.args.mem.now c.run_block.new.mem io c.in_ok-left.left (lefts.Touched c.in-Touched.span) c.args.report.now c.run_block.new.report led
     (g.B.Book.ledger c.args.book.now) (g.B.Book.ledger c.write.new.self) (nothing) c.requires.some tool_is max_is c.laws.ensures there (same_Some c.in-Some.block.now block (sym seen ∙ is)) begun
     (λ k i. c.in_ok-left.ensures.runs k i) c.in-Touched.is c.in_ok-left.ensures.report
-    (λ w maps units calls. ap (λ l. trace l maps units calls) (sym (c.write.ensures ∙ ap (written (range_of c.in-Touched.span)) c.leave-in-Touched.ensures)))
+    (λ w maps units requests. ap (λ l. trace l maps units requests) (sym (c.write.ensures ∙ ap (written (range_of c.in-Touched.span)) c.leave-in-Touched.ensures)))
 
 pub returns-in-Fuel-clause-ran : goal.returns-in-Fuel-clause-ran
 returns-in-Fuel-clause-ran g c = λ scheme io led block tool_is max_is is begun.
@@ -69,7 +69,7 @@ returns-in-Fuel-clause-ran g c = λ scheme io led block tool_is max_is is begun.
     ran-block scheme c.args.max c.in-Some.block.now block c.args.fuel.now c.run_block.new.fuel c.args.cpu.now c.run_block.new.cpu c.args.mem.now c.run_block.new.mem io c.in_ok-left.left (lefts.Fuel) c.args.report.now c.run_block.new.report led
     (g.B.Book.ledger c.args.book.now) (g.B.Book.ledger c.leave-in-Fuel.new.self) (nothing) c.requires.some tool_is max_is c.laws.ensures there (same_Some c.in-Some.block.now block (sym seen ∙ is)) begun
     (λ k i. c.in_ok-left.ensures.runs k i) c.in-Fuel.is c.in_ok-left.ensures.report
-    (λ w maps units calls. ap (λ l. trace l maps units calls) (sym (c.leave-in-Fuel.ensures)))
+    (λ w maps units requests. ap (λ l. trace l maps units requests) (sym (c.leave-in-Fuel.ensures)))
 
 pub returns-in-Fault-clause-ran : goal.returns-in-Fault-clause-ran
 returns-in-Fault-clause-ran g c = λ scheme io led block tool_is max_is is begun.
@@ -78,7 +78,7 @@ returns-in-Fault-clause-ran g c = λ scheme io led block tool_is max_is is begun
     ran-block scheme c.args.max c.in-Some.block.now block c.args.fuel.now c.run_block.new.fuel c.args.cpu.now c.run_block.new.cpu c.args.mem.now c.run_block.new.mem io c.in_ok-left.left (lefts.Fault c.in-Fault.kind) c.args.report.now c.run_block.new.report led
     (g.B.Book.ledger c.args.book.now) (g.B.Book.ledger c.leave-in-Fault.new.self) (nothing) c.requires.some tool_is max_is c.laws.ensures there (same_Some c.in-Some.block.now block (sym seen ∙ is)) begun
     (λ k i. c.in_ok-left.ensures.runs k i) c.in-Fault.is c.in_ok-left.ensures.report
-    (λ w maps units calls. ap (λ l. trace l maps units calls) (sym (c.leave-in-Fault.ensures)))
+    (λ w maps units requests. ap (λ l. trace l maps units requests) (sym (c.leave-in-Fault.ensures)))
 
 pub returns-in-Asked-clause-ran : goal.returns-in-Asked-clause-ran
 returns-in-Asked-clause-ran g c = λ scheme io led block tool_is max_is is begun.
@@ -87,7 +87,7 @@ returns-in-Asked-clause-ran g c = λ scheme io led block tool_is max_is is begun
     ran-block scheme c.args.max c.in-Some.block.now block c.args.fuel.now c.run_block.new.fuel c.args.cpu.now c.run_block.new.cpu c.args.mem.now c.run_block.new.mem io c.in_ok-left.left (lefts.Asked) c.args.report.now c.run_block.new.report led
     (g.B.Book.ledger c.args.book.now) (g.B.Book.ledger c.leave-in-Asked.new.self) (λ w. after_call w scheme (called c.run_block.new.cpu c.run_block.new.mem io)) c.requires.some tool_is max_is c.laws.ensures there (same_Some c.in-Some.block.now block (sym seen ∙ is)) begun
     (λ k i. c.in_ok-left.ensures.runs k i) c.in-Asked.is c.in_ok-left.ensures.report
-    (λ w maps units calls. ap (λ l. after_call w scheme (called c.run_block.new.cpu c.run_block.new.mem io) (trace l maps units calls)) (sym c.leave-in-Asked.ensures))
+    (λ w maps units requests. ap (λ l. after_call w scheme (called c.run_block.new.cpu c.run_block.new.mem io) (trace l maps units requests)) (sym c.leave-in-Asked.ensures))
 
 pub returns-in-Exit-clause-tool : goal.returns-in-Exit-clause-tool
 returns-in-Exit-clause-tool g c =
