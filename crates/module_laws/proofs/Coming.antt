@@ -198,7 +198,7 @@ codes_start base (s ∷ ss) =
       | inr off ↦ rw off rest
     ]
 
-nothing : (n : ℕ) → drop n [] ≡ ([] : List Code)
+nothing : (n : ℕ) → drop {A = Code} n [] ≡ []
 nothing zero = refl
 nothing (suc n) = refl
 
