@@ -1,0 +1,160 @@
+// The lines of a journal.
+ghost use Rattle.std.specs.Prelude.{◌≡◌, ◌++◌, ◌∷◌, [], codes, OnOk, OnErr};
+ghost use Rattle.journal_text.specs.Journal.{number, numbers, guest_name, slot_name, both_names, file_text, replaced_text, merged_text, entry_text, entry_line, journal_lines};
+
+use crate::names::{push_both, push_guest, push_number, push_numbers, push_slot};
+use cc_base::Name;
+use registry::{Entry, Merged, Replaced};
+use std::alloc::{AllocError, Global};
+use unit_set::SlotName;
+
+/// Appends `journal LENGTH`, and a line for each entry of a journal: what was called, the names of its guest and its slot
+/// where it has these, its numbers, and the reply. A guest's name is by its number in `guests`, and a slot's spelling by
+/// its number in `slots`; a number that is past the end stands for no name. Where memory runs out nothing is appended.
+pub fn push_journal(
+    alloc: Global,
+    out: &mut Vec<u8>,
+    guests: &[Name],
+    slots: &[SlotName],
+    journal: &[Entry],
+) -> Result<(), AllocError>
+    ensures ok { OnOk result (out.new.items ≡ out.old.items ++ journal_lines guests.now slots.now journal.now) }
+    ensures err { OnErr result (out.new.items ≡ out.old.items) }
+{
+    let mut lines = Vec::from_slice(alloc, b"journal")?;
+    push_number(&mut lines, journal.len() as u64)?;
+    lines.extend_from_slice(b"\n")?;
+    for entry in journal {
+        push_line(alloc, &mut lines, guests, slots, entry)?;
+    }
+    out.extend_from_slice(&lines)
+}
+
+fn push_line(
+    alloc: Global,
+    out: &mut Vec<u8>,
+    guests: &[Name],
+    slots: &[SlotName],
+    entry: &Entry,
+) -> Result<(), AllocError>
+    ensures { OnOk result (out.new.items ≡ out.old.items ++ entry_line guests.now slots.now entry.now) }
+{
+    push_entry(alloc, out, guests, slots, entry)?;
+    out.extend_from_slice(b"\n")
+}
+
+// Appends an entry.
+#[tactic(auto, unfolding(crate::specs::Journal::entry_text))]
+fn push_entry(
+    alloc: Global,
+    out: &mut Vec<u8>,
+    guests: &[Name],
+    slots: &[SlotName],
+    entry: &Entry,
+) -> Result<(), AllocError>
+    ensures { OnOk result (out.new.items ≡ out.old.items ++ entry_text guests.now slots.now entry.now) }
+{
+    match entry {
+        Entry::Map {
+            guest,
+            module,
+            file,
+        } => {
+            out.extend_from_slice(b"map ")?;
+            push_guest(out, guests, *guest)?;
+            push_number(out, u64::from(*module))?;
+            push_file(out, *file)
+        }
+        Entry::Replace {
+            guest,
+            module,
+            file,
+            reply,
+        } => {
+            out.extend_from_slice(b"replace ")?;
+            push_guest(out, guests, *guest)?;
+            push_numbers(out, &[u64::from(*module), u64::from(*file)])?;
+            out.extend_from_slice(replaced_text(*reply))
+        }
+        Entry::Attach {
+            guest,
+            slot,
+            file,
+            age,
+            version,
+        } => {
+            out.extend_from_slice(b"attach ")?;
+            push_both(alloc, out, guests, *guest, slots, *slot)?;
+            push_numbers(
+                out,
+                &[u64::from(*file), u64::from(*age), u64::from(*version)],
+            )
+        }
+        Entry::Merge {
+            guest,
+            slot,
+            age,
+            addrs,
+            reply,
+        } => {
+            out.extend_from_slice(b"merge ")?;
+            push_both(alloc, out, guests, *guest, slots, *slot)?;
+            push_numbers(out, &[u64::from(*age), addrs.items().len() as u64])?;
+            push_merged(out, *reply)
+        }
+        Entry::Detach { guest, slot, age } => {
+            out.extend_from_slice(b"detach ")?;
+            push_both(alloc, out, guests, *guest, slots, *slot)?;
+            push_number(out, u64::from(*age))
+        }
+        Entry::Due { slot, age, version } => {
+            out.extend_from_slice(b"due ")?;
+            push_slot(alloc, out, slots, *slot)?;
+            push_numbers(out, &[u64::from(*age), u64::from(*version)])
+        }
+        Entry::Acked { slot, age, version } => {
+            out.extend_from_slice(b"acked ")?;
+            push_slot(alloc, out, slots, *slot)?;
+            push_numbers(out, &[u64::from(*age), u64::from(*version)])
+        }
+        Entry::Failed { slot } => {
+            out.extend_from_slice(b"failed ")?;
+            push_slot(alloc, out, slots, *slot)
+        }
+        Entry::Finish => out.extend_from_slice(b"finish"),
+    }
+}
+
+fn push_file(out: &mut Vec<u8>, file: Option<u32>) -> Result<(), AllocError>
+    ensures { OnOk result (out.new.items ≡ out.old.items ++ file_text file) }
+{
+    match file {
+        None => out.extend_from_slice(b" none"),
+        Some(file) => push_number(out, u64::from(file)),
+    }
+}
+
+fn replaced_text(reply: Replaced) -> &'static [u8]
+    ensures text { result.now ≡ replaced_text reply }
+{
+    match reply {
+        Replaced::Yes => b" yes",
+        Replaced::NoSuchModule => b" no-module",
+        Replaced::NoSuchFile => b" no-file",
+    }
+}
+
+fn push_merged(out: &mut Vec<u8>, reply: Merged) -> Result<(), AllocError>
+    ensures { OnOk result (out.new.items ≡ out.old.items ++ merged_text reply) }
+{
+    match reply {
+        Merged::Version(version) => {
+            out.extend_from_slice(b" version")?;
+            push_number(out, u64::from(version))
+        }
+        Merged::UnitFull(count) => {
+            out.extend_from_slice(b" full")?;
+            push_number(out, u64::from(count))
+        }
+    }
+}
