@@ -5,7 +5,7 @@ ghost use Rattle.std.specs.List.{All};
 ghost use Rattle.unit_set.specs.Sets.{IsRising};
 ghost use Rattle.unit_set.specs.Held.{IsFreshFor, addresses};
 ghost use Rattle.registry.specs.Content.{content_of};
-ghost use Rattle.registry.specs.Dues.{Dues};
+ghost use Rattle.registry.specs.Dues.{Dues, HasName};
 ghost use Rattle.registry.specs.State.{with_at, first_due};
 ghost use Rattle.registry.specs.Opening.{image_at, slot_at};
 ghost use Rattle.registry.specs.Registry.{attached, with_generation, one_less, slot_in, generation_in, attaches_generation, replaced_by, files_after, published_as, shut_now, generation_of, merged, merge_reply, slot_opened, slots_opened};
@@ -129,6 +129,7 @@ impl Registry {
     /// guests are done.
     pub fn due(&mut self) -> Result<Due, AllocError>
         ensures ok { IfOk result (Dues self.old self.new) }
+        ensures slot { IfOk result (HasName self.old.opening) }
         ensures err { OnErr result (self.new ≡ self.old) }
     {
         let Some((slot, stamp)) = first_due(&self.slots) else {
