@@ -1,6 +1,9 @@
 -- What a guest holds, and what may be answered, behind one entry more.
-use Rattle.std.proofs.Common.{◌≡◌, ℕ, zero, suc, ◌<◌, ◌≤◌, List, [], ◌∷◌, ◌++◌, length, refl, sym, ap, subst, ◌∙◌, arith, Option, Some, None, eq-eqb}
+use Rattle.std.proofs.Common.{◌≡◌, ℕ, zero, suc, ◌+◌, ◌<◌, ◌≤◌, Bool, cond, count_by, List, [], ◌∷◌, ◌++◌, length, refl, sym, ap, subst, ◌∙◌, arith, Option, Some, None, eq-eqb}
+use Rattle.std.specs.Prelude.{unwrap_or}
 use Rattle.std.proofs.lemmas.List.{length-append}
+use Rattle.std.proofs.lemmas.List.Sums.{sum_by-append}
+use Rattle.std.proofs.lemmas.Option.{slice_get_past}
 use Rattle.std.proofs.lemmas.List.Quantifiers.{position-Some}
 use Rattle.std.proofs.Common.{inl, inr}
 use Rattle.std.proofs.lemmas.Bool.{cases_lt}
@@ -13,8 +16,8 @@ use Rattle.registry.specs.Content.{Content}
 use Rattle.registry.specs.Opening.{Opening, empty_at}
 use Rattle.registry.specs.State.{State, SlotState, Generation, with_at, due_slot, first_due}
 use Rattle.registry.specs.Registry.{after, attach_age, attach_generation, attached, attaches_generation, age_of, due_entry, generation_in, generation_of, held_at, merged, no_generation, no_state, one_more, new_generation, slot_in, slot_of, with_generation}
-use Rattle.registry.specs.History.{History, IsHeld, state_of}
-use Rattle.registry.specs.Laws.{AttachesHold, MergesKeep, DuesMayBeAnswered}
+use Rattle.registry.specs.History.{History, IsHeld, is_attach, is_detach, state_of}
+use Rattle.registry.specs.Laws.{AttachesHold, HoldsItsOwn, MergesKeep, DuesMayBeAnswered}
 use Rattle.registry.proofs.Dues.{due_there}
 use Rattle.registry.proofs.Keeps.{after-snoc, held_att, map_att, merged_att, one}
 use Rattle.registry.proofs.Places.{length-with_at, nth-with_same, nth-with_other}
@@ -39,7 +42,7 @@ holds u gs (Some age) is =
     let within = (position-Some _ gs age no_generation is).0 in
     record { there = omega (arith, within, length-with_at one_more gs age); unit = ap (λ (g : Generation). g.unit) (nth-with_same one_more gs age no_generation within) }
 
-is_attached : (o : Opening) (s now : State) (slot file age : ℕ) → slot < length s.slots → now ≡ record s { slots = with_at (attached (empty_at o slot file)) slot s.slots }
+pub is_attached : (o : Opening) (s now : State) (slot file age : ℕ) → slot < length s.slots → now ≡ record s { slots = with_at (attached (empty_at o slot file)) slot s.slots }
     → age ≡ attach_age (age_of (empty_at o slot file).image (slot_of s slot).generations) (slot_of s slot).generations
     → IsHeld now slot age × ((generation_of now slot age).unit ≡ (attaches_generation o s slot file).unit)
 is_attached o s now slot file age within is at =
@@ -60,7 +63,7 @@ is_attached o s now slot file age within is at =
       ap (λ (xs : List Generation). (generation_in xs age).unit) here ∙ (ap (λ n. (generation_in (held_at u gs place) n).unit) at ∙ h.unit),
     )
 
-age_told : (a b c d e f g h i j : ℕ) → (let x : Option Entry = Some (Attach a b c d e) in x) ≡ Some (Attach f g h i j) → i ≡ d
+pub age_told : (a b c d e f g h i j : ℕ) → (let x : Option Entry = Some (Attach a b c d e) in x) ≡ Some (Attach f g h i j) → i ≡ d
 age_told a b c d e f g h i j is = cc
 
 pub attaches-hold : AttachesHold
@@ -130,3 +133,41 @@ dues-may-be-answered old new slot age version adds =
       slot_there = omega (arith, within, ap (λ (x : State). length x.slots) is);
       due = omega (arith, ap (λ (x : State). x.unanswered) is);
     }
+
+-- ---- what a guest attached more often than it let it go
+
+age_there : (gs : List Generation) (age : ℕ) → 1 ≤ (generation_in gs age).attached → age < length gs
+age_there gs age held = elim (cases_lt age (length gs)) [
+  | inl within ↦ within
+  | inr past ↦
+      let none_there : (generation_in gs age).attached ≡ 0 = ap (λ (g : Option Generation). (unwrap_or g no_generation).attached) (slice_get_past gs age past) in
+      absurd (omega (arith, held, none_there))
+]
+
+slot_there : (s : State) (slot age : ℕ) → 1 ≤ (generation_of s slot age).attached → slot < length s.slots
+slot_there s slot age held = elim (cases_lt slot (length s.slots)) [
+  | inl within ↦ within
+  | inr past ↦
+      let none_there : (generation_of s slot age).attached ≡ 0 = ap (λ (x : Option SlotState). (generation_in (unwrap_or x no_state).generations age).attached) (slice_get_past s.slots slot past) in
+      absurd (omega (arith, held, none_there))
+]
+
+is_held : (s : State) (slot age : ℕ) → 1 ≤ (generation_of s slot age).attached → IsHeld s slot age
+is_held s slot age held = record { slot_there = slot_there s slot age held; age_there = age_there (slot_of s slot).generations age held; held = held }
+
+count-append : (p : Entry → Bool) (xs ys : List Entry) → count_by p (xs ++ ys) ≡ count_by p xs + count_by p ys
+count-append p xs ys = sum_by-append (λ x. cond (p x) 1 0) xs ys
+
+pub holds-its-own : HoldsItsOwn
+holds-its-own old new more slot age go is counted own =
+    let j : new.journal ≡ old.journal ++ more = ap (λ (h : History). h.journal) is in
+    is_held (state_of new) slot age (omega (
+      arith,
+      counted.attached slot age,
+      go slot age,
+      own,
+      ap (count_by (is_detach slot age)) j,
+      ap (count_by (is_attach slot age)) j,
+      count-append (is_detach slot age) old.journal more,
+      count-append (is_attach slot age) old.journal more,
+    ))

@@ -21,8 +21,8 @@ use Rattle.registry.specs.declared.entry.Replaced.{Replaced}
 use Rattle.registry.specs.declared.entry.Merged.{Merged}
 use Rattle.unit_set.specs.Slot.{Slot}
 use Rattle.registry.specs.Opening.{Opening, image_at, empty_at, slot_at, no_slot}
-use Rattle.registry.specs.State.{State, SlotState, Generation, with_at}
-use Rattle.registry.specs.Registry.{opened, after, after_all, generation_in, generation_of, slot_in, no_generation, no_state, one_more, one_less, new_generation, has_image, age_of, attach_age, attach_generation, held, held_at, attached, with_generation, published_as, shut_now, files_after, replaced_by, slot_opened, slots_opened, is_over, version_after, merged}
+use Rattle.registry.specs.State.{State, SlotState, Generation, first_due, with_at}
+use Rattle.registry.specs.Registry.{opened, after, after_all, due_entry, merge_reply, replaced_by, IsReplied, AreReplied, attaches_generation, generation_in, generation_of, slot_in, no_generation, no_state, one_more, one_less, new_generation, has_image, age_of, attach_age, attach_generation, held, held_at, attached, with_generation, published_as, shut_now, files_after, slot_opened, slots_opened, is_over, version_after, merged}
 use Rattle.registry.specs.History.{IsKept, IsHeld, IsOpening, passing, has_file, AreFew, is_attach, is_detach, is_due, is_answer, owed_by, owed_of, IsVersioned, AreVersioned, IsNamed, AreNamed, AreFound}
 use Rattle.registry.proofs.Lists.{set_is, all_nth}
 use Rattle.registry.proofs.Places.{nth-with_same, nth-with_other, length-with_at}
@@ -35,6 +35,10 @@ one b = cond b 1 0
 pub after-snoc : (o : Opening) (s : State) (es : List Entry) (e : Entry) → after_all o s (es ++ e ∷ []) ≡ after o (after_all o s es) e
 after-snoc o s [] e = refl
 after-snoc o s (x ∷ es) e = after-snoc o (after o s x) es e
+
+pub replied-snoc : (o : Opening) (s : State) (es : List Entry) (e : Entry) → AreReplied o s es → IsReplied o (after_all o s es) e → AreReplied o s (es ++ e ∷ [])
+replied-snoc o s [] e all here = (here, tt)
+replied-snoc o s (x ∷ es) e all here = (all.0, replied-snoc o (after o s x) es e all.1 here)
 
 count-snoc : (p : Entry → Bool) (es : List Entry) (e : Entry) → count_by p (es ++ e ∷ []) ≡ count_by p es + one (p e)
 count-snoc p es e = sum_by-append (λ x. cond (p x) 1 0) es (e ∷ []) ∙ ap (λ n. count_by p es + n) (omega arith)
@@ -146,13 +150,14 @@ attach_slot u gs (Some age) is all = all_nth (IsNamed u.slot) gs age no_generati
 -- ---- an entry more, in general
 
 pub kept : (o : Opening) (j j' : List Entry) (s s' : State) (owed owed' room room' : ℕ) (e : Entry) → IsKept o j s owed room
-    → j' ≡ j ++ e ∷ [] → s' ≡ after o s e
+    → j' ≡ j ++ e ∷ [] → IsReplied o s e → s' ≡ after o s e
     → ((slot age : ℕ) → (generation_of s' slot age).attached + one (is_detach slot age e) ≡ (generation_of s slot age).attached + one (is_attach slot age e))
     → s'.unanswered + one (is_answer e) ≡ s.unanswered + one (is_due e)
     → owed' ≡ owed_of s' → length j + 1 + owed' ≤ room' → length s'.slots ≡ length s.slots → AllByRecursion AreVersioned s'.slots → AreNamed o.slots s'.slots → AreFew o s'.slots
     → IsKept o j' s' owed' room'
-kept o j j' s s' owed owed' room room' e k longer is held answers owes fits same versions named few = record {
+kept o j j' s s' owed owed' room room' e k longer told is held answers owes fits same versions named few = record {
   fold = is ∙ ap (λ x. after o x e) k.fold ∙ sym (after-snoc o (opened o) j e) ∙ ap (λ x. after_all o (opened o) x) (sym longer);
+  replied = subst (AreReplied o (opened o)) (sym longer) (replied-snoc o (opened o) j e k.replied (subst (λ x. IsReplied o x e) k.fold told));
   attached = λ slot age. omega (arith, k.attached slot age, held slot age, count-snoc (is_detach slot age) j e, count-snoc (is_attach slot age) j e, ap (count_by (is_detach slot age)) longer, ap (count_by (is_attach slot age)) longer);
   answered = omega (arith, k.answered, answers, count-snoc is_answer j e, count-snoc is_due j e, ap (count_by is_answer) longer, ap (count_by is_due) longer);
   owes = owes;
@@ -162,6 +167,7 @@ kept o j j' s s' owed owed' room room' e k longer is held answers owes fits same
   named = named;
   few = few;
   within = k.within;
+  modules = k.modules;
 }
 
 -- ---- numbers of guests
@@ -437,6 +443,7 @@ found_length (name ∷ names) (Some u ∷ found) all = ap suc (found_length name
 pub opened_kept : (o : Opening) (room : ℕ) → IsOpening o → 1 ≤ room → IsKept o [] (opened o) 1 room
 opened_kept o room h more = record {
   fold = refl;
+  replied = tt;
   attached = λ slot age. omega (arith, opened_att o.found o.shut slot age);
   answered = refl;
   owes = omega (arith, opened_owed o.found o.shut);
@@ -446,6 +453,7 @@ opened_kept o room h more = record {
   named = opened_named o.slots o.found o.shut h.found h.shut;
   few = λ slot. omega (arith, opened_one o.found o.shut slot);
   within = h.few;
+  modules = h.modules;
 }
 
 -- ---- each entry
@@ -464,7 +472,7 @@ module _ (o : Opening) (j : List Entry) (files : List ℕ) (ss : List SlotState)
       let made = with_at (with_generation age one_less) slot ss in
       let owes = detach_owed ss slot age h.slot_there h.age_there h.held in
       subst (λ (x : List SlotState). IsKept o j' (st files x un fin) (owed - 1) room') (sym is)
-      (kept o j j' (st files ss un fin) (st files made un fin) owed (owed - 1) room room' (Detach guest slot age) k longer refl
+      (kept o j j' (st files ss un fin) (st files made un fin) owed (owed - 1) room room' (Detach guest slot age) k longer refl refl
       (λ s a. omega (arith, detach_att ss slot age s a h.slot_there h.age_there h.held)) (omega arith)
       (omega (arith, k.owes, owes)) (omega (arith, k.room, more, detach_owes slot age h)) (length-with_at (with_generation age one_less) ss slot)
       (all_with AreVersioned (with_generation age one_less) (λ x v. detach_versioned age x v) ss slot k.versions)
@@ -474,12 +482,13 @@ module _ (o : Opening) (j : List Entry) (files : List ℕ) (ss : List SlotState)
   -- a guest attaches a generation
   pub attach_kept : (j' : List Entry) (ss' : List SlotState) (room' guest slot file age version : ℕ) → slot < length ss → file < length o.codes
       → age ≡ attach_age (age_of (image_at o slot file) (slot_in ss slot).generations) (slot_in ss slot).generations
+      → version ≡ (attach_generation (empty_at o slot file) (slot_in ss slot).generations (age_of (image_at o slot file) (slot_in ss slot).generations)).version
       → j' ≡ j ++ Attach guest slot file age version ∷ [] → length j + 1 + (owed + 1) ≤ room' → ss' ≡ with_at (attached (empty_at o slot file)) slot ss → IsKept o j' (st files ss' un fin) (owed + 1) room'
-  attach_kept j' ss' room' guest slot file age version within below at longer more is =
+  attach_kept j' ss' room' guest slot file age version within below at now longer more is =
       let unit = empty_at o slot file in
       let gs = (slot_in ss slot).generations in
       subst (λ (x : List SlotState). IsKept o j' (st files x un fin) (owed + 1) room') (sym is)
-      (kept o j j' (st files ss un fin) (st files (with_at (attached unit) slot ss) un fin) owed (owed + 1) room room' (Attach guest slot file age version) k longer refl
+      (kept o j j' (st files ss un fin) (st files (with_at (attached unit) slot ss) un fin) owed (owed + 1) room room' (Attach guest slot file age version) k longer (ap (λ n. Some (Attach guest slot file n (attaches_generation o (st files ss un fin) slot file).version)) (sym at) ∙ ap (λ n. Some (Attach guest slot file age n)) (sym now)) refl
       (λ s a. omega (arith, attach_att unit ss slot s a within, ap (λ x. one ((slot == s) && (x == a))) at)) refl
       (omega (arith, k.owes, attach_owed unit ss slot within)) more (length-with_at (attached unit) ss slot)
       (all_with AreVersioned (attached unit) (λ x v. attach_versioned o slot file x v) ss slot k.versions)
@@ -488,11 +497,11 @@ module _ (o : Opening) (j : List Entry) (files : List ℕ) (ss : List SlotState)
 
   -- a publication is answered
   answer_kept : (f : SlotState → SlotState) (e : Entry) (j' : List Entry) (ss' : List SlotState) (room' slot : ℕ) → Quiet f → ((x : SlotState) → owed_by (f x) ≡ owed_by x) → ((x : SlotState) → AreVersioned x → AreVersioned (f x))
-      → after o (st files ss un fin) e ≡ st files (with_at f slot ss) (un - 1) fin → ((s a : ℕ) → (is_detach s a e ≡ false) × (is_attach s a e ≡ false)) → is_answer e ≡ true → is_due e ≡ false
+      → after o (st files ss un fin) e ≡ st files (with_at f slot ss) (un - 1) fin → ((s a : ℕ) → (is_detach s a e ≡ false) × (is_attach s a e ≡ false)) → is_answer e ≡ true → is_due e ≡ false → IsReplied o (st files ss un fin) e
       → slot < length ss → ((x : SlotState) → (f x).generations ≡ x.generations) → 1 ≤ un → j' ≡ j ++ e ∷ [] → room ≤ room' → ss' ≡ with_at f slot ss → IsKept o j' (st files ss' (un - 1) fin) (owed - 1) room'
-  answer_kept f e j' ss' room' slot quiet owed_same versioned does neither answer due within same some longer more is =
+  answer_kept f e j' ss' room' slot quiet owed_same versioned does neither answer due told within same some longer more is =
       subst (λ (x : List SlotState). IsKept o j' (st files x (un - 1) fin) (owed - 1) room') (sym is)
-      (kept o j j' (st files ss un fin) (st files (with_at f slot ss) (un - 1) fin) owed (owed - 1) room room' e k longer (sym does)
+      (kept o j j' (st files ss un fin) (st files (with_at f slot ss) (un - 1) fin) owed (owed - 1) room room' e k longer told (sym does)
       (λ s a. omega (arith, quiet_att f quiet ss slot s a, ap one (neither s a).0, ap one (neither s a).1)) (omega (arith, some, ap one answer, ap one due))
       (omega (arith, k.owes, quiet_owed f owed_same ss slot, some)) (omega (arith, k.room, more, k.owes, some)) (length-with_at f ss slot)
       (all_with AreVersioned f versioned ss slot k.versions)
@@ -505,46 +514,47 @@ module _ (o : Opening) (j : List Entry) (files : List ℕ) (ss : List SlotState)
   pub acked_kept : (j' : List Entry) (ss' : List SlotState) (room' slot age version : ℕ) → slot < length ss → 1 ≤ un → j' ≡ j ++ Acked slot age version ∷ [] → room ≤ room'
       → ss' ≡ with_at (published_as age version) slot ss → IsKept o j' (st files ss' (un - 1) fin) (owed - 1) room'
   acked_kept j' ss' room' slot age version within some longer more is =
-      answer_kept (published_as age version) (Acked slot age version) j' ss' room' slot (λ x a. refl) (λ x. refl) (λ x v. v) refl (λ s a. (refl, refl)) refl refl within (λ x. refl) some longer more is
+      answer_kept (published_as age version) (Acked slot age version) j' ss' room' slot (λ x a. refl) (λ x. refl) (λ x v. v) refl (λ s a. (refl, refl)) refl refl refl within (λ x. refl) some longer more is
 
   pub failed_kept : (j' : List Entry) (ss' : List SlotState) (room' slot : ℕ) → slot < length ss → 1 ≤ un → j' ≡ j ++ Failed slot ∷ [] → room ≤ room'
       → ss' ≡ with_at shut_now slot ss → IsKept o j' (st files ss' (un - 1) fin) (owed - 1) room'
   failed_kept j' ss' room' slot within some longer more is =
-      answer_kept shut_now (Failed slot) j' ss' room' slot (λ x a. refl) (λ x. refl) (λ x v. v) refl (λ s a. (refl, refl)) refl refl within (λ x. refl) some longer more is
+      answer_kept shut_now (Failed slot) j' ss' room' slot (λ x a. refl) (λ x. refl) (λ x v. v) refl (λ s a. (refl, refl)) refl refl refl within (λ x. refl) some longer more is
 
   -- all is done
   pub finish_kept : (j' : List Entry) (room' : ℕ) → fin ≡ false → j' ≡ j ++ Finish ∷ [] → room ≤ room' → IsKept o j' (st files ss un true) (owed - 1) room'
   finish_kept j' room' not_yet longer more =
       let one_owed : owed_of (st files ss un fin) ≡ sum_by owed_by ss + un + 1 = ap (λ b. sum_by owed_by ss + un + (if b then 0 else 1)) not_yet in
-      kept o j j' (st files ss un fin) (st files ss un true) owed (owed - 1) room room' Finish k longer refl (λ s a. refl) refl
+      kept o j j' (st files ss un fin) (st files ss un true) owed (owed - 1) room room' Finish k longer (ap (λ b. if b then None else Some Finish) not_yet) refl (λ s a. refl) refl
       (omega (arith, k.owes, one_owed)) (omega (arith, k.room, more, k.owes, one_owed)) refl k.versions k.named k.few
 
   -- a module is another file
   pub replace_kept : (j' : List Entry) (files' : List ℕ) (room' guest m file : ℕ) (reply : Replaced) → j' ≡ j ++ Replace guest m file reply ∷ [] → length j + 1 + owed ≤ room'
-      → files' ≡ files_after (replaced_by files (length o.codes) m file) files m file → IsKept o j' (st files' ss un fin) owed room'
-  replace_kept j' files' room' guest m file reply longer more is =
-      kept o j j' (st files ss un fin) (st files' ss un fin) owed owed room room' (Replace guest m file reply) k longer
+      → reply ≡ replaced_by files (length o.codes) m file → files' ≡ files_after (replaced_by files (length o.codes) m file) files m file → IsKept o j' (st files' ss un fin) owed room'
+  replace_kept j' files' room' guest m file reply longer more told is =
+      kept o j j' (st files ss un fin) (st files' ss un fin) owed owed room room' (Replace guest m file reply) k longer (ap (λ r. Some (Replace guest m file r)) (sym told))
       (ap (λ (x : List ℕ). st x ss un fin) is) (λ s a. refl) refl k.owes more refl k.versions k.named k.few
 
   -- nothing changes but the journal
-  pub map_kept : (j' : List Entry) (room' guest m : ℕ) (file : Option ℕ) → j' ≡ j ++ Map guest m file ∷ [] → length j + 1 + owed ≤ room' → IsKept o j' (st files ss un fin) owed room'
-  map_kept j' room' guest m file longer more =
-      kept o j j' (st files ss un fin) (st files ss un fin) owed owed room room' (Map guest m file) k longer refl (λ s a. refl) refl k.owes more refl k.versions k.named k.few
+  pub map_kept : (j' : List Entry) (room' guest m : ℕ) (file : Option ℕ) → j' ≡ j ++ Map guest m file ∷ [] → length j + 1 + owed ≤ room' → file ≡ slice_get files m → IsKept o j' (st files ss un fin) owed room'
+  map_kept j' room' guest m file longer more told =
+      kept o j j' (st files ss un fin) (st files ss un fin) owed owed room room' (Map guest m file) k longer (ap (λ f. Some (Map guest m f)) (sym told)) refl (λ s a. refl) refl k.owes more refl k.versions k.named k.few
 
-  pub due_kept : (j' : List Entry) (room' slot age version : ℕ) → j' ≡ j ++ Due slot age version ∷ [] → length j + 1 + (owed + 1) ≤ room' → IsKept o j' (st files ss (un + 1) fin) (owed + 1) room'
-  due_kept j' room' slot age version longer more =
-      kept o j j' (st files ss un fin) (st files ss (un + 1) fin) owed (owed + 1) room room' (Due slot age version) k longer refl (λ s a. refl) (omega arith) (omega (arith, k.owes)) more refl k.versions k.named k.few
+  pub due_kept : (j' : List Entry) (room' slot age version : ℕ) → j' ≡ j ++ Due slot age version ∷ [] → length j + 1 + (owed + 1) ≤ room' → due_entry (first_due 0 ss) ≡ Some (Due slot age version) → IsKept o j' (st files ss (un + 1) fin) (owed + 1) room'
+  due_kept j' room' slot age version longer more told =
+      kept o j j' (st files ss un fin) (st files ss (un + 1) fin) owed (owed + 1) room room' (Due slot age version) k longer told refl (λ s a. refl) (omega arith) (omega (arith, k.owes)) more refl k.versions k.named k.few
 
   pub few_due : un ≤ length j
   few_due = omega (arith, k.answered, count_by-le-length is_due j)
 
   -- a merge
   pub merge_kept : (j' : List Entry) (ss' : List SlotState) (room' guest slot age : ℕ) (addrs : List ℕ) (reply : Merged) → slot < length ss → j' ≡ j ++ Merge guest slot age addrs reply ∷ [] → length j + 1 + owed ≤ room'
+      → reply ≡ merge_reply addrs (generation_in (slot_in ss slot).generations age)
       → ss' ≡ with_at (with_generation age (merged addrs)) slot ss → IsKept o j' (st files ss' un fin) owed room'
-  merge_kept j' ss' room' guest slot age addrs reply within longer more is =
+  merge_kept j' ss' room' guest slot age addrs reply within longer more told is =
       let f : SlotState → SlotState = with_generation age (merged addrs) in
       subst (λ (x : List SlotState). IsKept o j' (st files x un fin) owed room') (sym is)
-      (kept o j j' (st files ss un fin) (st files (with_at f slot ss) un fin) owed owed room room' (Merge guest slot age addrs reply) k longer refl
+      (kept o j j' (st files ss un fin) (st files (with_at f slot ss) un fin) owed owed room room' (Merge guest slot age addrs reply) k longer (ap (λ r. Some (Merge guest slot age addrs r)) (sym told)) refl
       (λ s a. omega (arith, quiet_att f (λ x b. map_att (merged addrs) (merged_att addrs) x.generations age b) ss slot s a)) refl
       (omega (arith, k.owes, quiet_owed f (λ x. map_owed (merged addrs) (merged_att addrs) x.generations age) ss slot)) more (length-with_at f ss slot)
       (all_with AreVersioned f (λ x v. all_with IsVersioned (merged addrs) (merged_versioned addrs) x.generations age v) ss slot k.versions)

@@ -5,3 +5,5 @@ pub mod Keeps
 pub mod Dues
 pub mod Merging
 pub mod Holding
+pub mod Files
+pub mod Growing

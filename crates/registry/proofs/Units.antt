@@ -105,7 +105,7 @@ or_turn true false r = refl
 or_turn false true r = refl
 or_turn false false r = refl
 
-has_union : (z : ℕ) (xs more : List ℕ) → has z (union xs more) ≡ (has z xs || has z more)
+pub has_union : (z : ℕ) (xs more : List ℕ) → has z (union xs more) ≡ (has z xs || has z more)
 has_union z xs [] = or_none (has z xs) where
   or_none : (p : Bool) → p ≡ (p || false)
   or_none true = refl

@@ -1,13 +1,13 @@
 -- A registry as its callers see it, and what its type keeps.
 use Rattle.std.specs.Prelude.{◌≡◌, ℕ, zero, suc, ◌+◌, ◌≤◌, ◌<◌, ◌-◌, ◌^◌, ◌==◌, ◌&&◌, Bool, true, false, if◌then◌else◌, List, [], ◌∷◌, ◌++◌, length, slice_get, unwrap_or, count_by, sum_by, Option, Some, None}
-use Rattle.std.specs.List.{AllByRecursion, list_any}
+use Rattle.std.specs.List.{All, AllByRecursion, list_any}
 use Rattle.registry.specs.declared.entry.Entry.{Entry}
 use Rattle.registry.specs.declared.entry.Entry.TheVariants.{Attach, Detach, Due, Acked, Failed}
 use Rattle.registry.specs.Opening.{Opening, slot_at, image_at}
 use Rattle.unit_set.specs.Slot.{Slot}
 use Rattle.registry.specs.Content.{Content}
 use Rattle.registry.specs.State.{State, SlotState, Generation}
-use Rattle.registry.specs.Registry.{reg, IsReplied, generation_of, slot_of, slot_in, generation_in, has_image}
+use Rattle.registry.specs.Registry.{opened, reg, IsReplied, AreReplied, generation_of, slot_of, slot_in, generation_in, has_image}
 
 -- what it was made from, and its journal
 pub record History : Type 0 where
@@ -81,8 +81,14 @@ AreNamed (name ∷ names) (s ∷ ss) = AllByRecursion (IsNamed name) s.generatio
 abbrev pub AreFew : Opening → List SlotState → Type 0
 AreFew o ss = (slot : ℕ) → length (slot_in ss slot).generations ≤ 1 + passing (has_file o slot (slot_in ss slot).generations) (length o.codes)
 
+-- the file of each module is there
+abbrev pub AreFiles : Opening → Type 0
+AreFiles o = All (λ file. file < length o.codes) o.modules
+
 pub record IsKept (o : Opening) (journal : List Entry) (s : State) (owed capacity : ℕ) : Type 0 where
   pub fold : s ≡ reg o journal
+  -- each entry is the one that its call made at its place
+  pub replied : AreReplied o (opened o) journal
   -- each number attached is the Attach entries of that generation less its Detach entries
   pub attached : (slot age : ℕ) → (generation_of s slot age).attached + count_by (is_detach slot age) journal ≡ count_by (is_attach slot age) journal
   pub answered : s.unanswered + count_by is_answer journal ≡ count_by is_due journal
@@ -93,6 +99,7 @@ pub record IsKept (o : Opening) (journal : List Entry) (s : State) (owed capacit
   pub named : AreNamed o.slots s.slots
   pub few : AreFew o s.slots
   pub within : (length o.slots < 4294967295) × (length o.codes < 4294967295)
+  pub modules : AreFiles o
 
 -- ---- conditions
 
@@ -108,6 +115,7 @@ pub record IsOpening (o : Opening) : Type 0 where
   pub found : AreFound o.slots o.found
   pub shut : length o.shut ≡ length o.slots
   pub few : (length o.slots < 4294967295) × (length o.codes < 4294967295)
+  pub modules : AreFiles o
 
 -- the file has the slot's segment, and it fits
 pub record MayAttach (o : Opening) (slot file : ℕ) : Type 0 where

@@ -1,5 +1,5 @@
 // The registry.
-ghost use Rattle.std.specs.Prelude.{◌≡◌, ◌<◌, ◌≤◌, ◌+◌, ◌^◌, [], ◌∷◌, ◌++◌, length, IfOk, OnOk, OnErr, slice_get, Some, true, false, map, option_map};
+ghost use Rattle.std.specs.Prelude.{◌≡◌, ◌<◌, ◌≤◌, ◌+◌, ◌^◌, [], ◌∷◌, ◌++◌, length, IfOk, IfSome, OnOk, OnErr, slice_get, Some, true, false, map, option_map};
 ghost use Rattle.std.specs.Arc.{arc_value};
 ghost use Rattle.std.specs.List.{All};
 ghost use Rattle.unit_set.specs.Sets.{IsRising};
@@ -8,7 +8,7 @@ ghost use Rattle.registry.specs.Content.{content_of};
 ghost use Rattle.registry.specs.Dues.{Dues, HasName};
 ghost use Rattle.registry.specs.State.{with_at, first_due};
 ghost use Rattle.registry.specs.Opening.{image_at, slot_at};
-ghost use Rattle.registry.specs.Registry.{attached, with_generation, one_less, slot_in, generation_in, attaches_generation, replaced_by, files_after, published_as, shut_now, generation_of, merged, merge_reply, slot_opened, slots_opened};
+ghost use Rattle.registry.specs.Registry.{attached, with_generation, one_less, slot_in, generation_in, attaches_generation, replaced_by, files_after, published_as, shut_now, generation_of, merged, merge_reply, slot_opened, slots_opened, opened, AreReplied};
 ghost use Rattle.registry.specs.History.{Adds, IsHeld, MayAttach, state_of, AreCounted, MayAnswer, IsOpening, IsCounted};
 ghost use Rattle.registry.specs.Holds.{IsGeneration};
 ghost use Rattle.registry.specs.declared.entry.Entry.TheVariants.{Map, Replace, Attach, Merge, Detach, Acked, Failed, Finish};
@@ -120,7 +120,8 @@ impl Registry {
 
     /// How many slots there are.
     pub fn slot_count(&self) -> usize
-        ensures { result ≡ length (state_of self.now).slots }
+        ensures slots { result ≡ length (state_of self.now).slots }
+        ensures opening { result ≡ length self.now.opening.slots }
     {
         self.slots.len()
     }
@@ -155,9 +156,10 @@ impl Registry {
         })
     }
 
-    /// The file of a module; none where the number is no module's.
+    /// The file of a module, which is one of the opening's; none where the number is no module's.
     pub fn map(&mut self, guest: u32, module: u32) -> Result<Option<u32>, AllocError>
         ensures ok { IfOk result (λ file. Adds self.old (Map guest «module» file) self.new) }
+        ensures file { IfOk result (λ file. IfSome file (λ f. f < length self.old.opening.codes)) }
         ensures err { OnErr result (self.new ≡ self.old) }
     {
         self.journal.reserve(room_for(self.owed))?;
@@ -258,11 +260,12 @@ impl Registry {
         }
     }
 
-    /// The journal. A generation is held by as many guests as attached it and did not detach it, and as many publications
+    /// The journal, in which each entry is the one that its call makes at its place. A generation is held by as many guests as attached it and did not detach it, and as many publications
     /// are not answered as the Due entries are more than the answers.
     pub fn journal(&self) -> &[Entry]
         ensures entries { result.now ≡ self.now.journal }
         ensures counted { IsCounted (state_of self.now) self.now.journal }
+        ensures replied { AreReplied self.now.opening (opened self.now.opening) self.now.journal }
     {
         &self.journal
     }

@@ -13,11 +13,11 @@ all_one P x h (suc k) d lt = absurd (omega arith)
 
 pub merge-requires-clause-held : goal.merge-requires-clause-held
 merge-requires-clause-held c =
-    (c.attached_is_held.ensures c.args.registry.now c.attach.new.self c.args.guest 0 c.args.file c.in_ok-attached.attached.age c.in_ok-attached.attached.version (omega (arith, c.slot_count.ensures)) c.in_ok-attached.ensures.ok).held
+    (c.attached_is_held.ensures c.args.registry.now c.attach.new.self c.args.guest 0 c.args.file c.in_ok-attached.attached.age c.in_ok-attached.attached.version (omega (arith, c.slot_count.ensures.slots)) c.in_ok-attached.ensures.ok).held
 
 pub merge-requires-clause-fresh : goal.merge-requires-clause-fresh
 merge-requires-clause-fresh c =
-    let made = c.attached_is_held.ensures c.args.registry.now c.attach.new.self c.args.guest 0 c.args.file c.in_ok-attached.attached.age c.in_ok-attached.attached.version (omega (arith, c.slot_count.ensures)) c.in_ok-attached.ensures.ok in
+    let made = c.attached_is_held.ensures c.args.registry.now c.attach.new.self c.args.guest 0 c.args.file c.in_ok-attached.attached.age c.in_ok-attached.attached.version (omega (arith, c.slot_count.ensures.slots)) c.in_ok-attached.ensures.ok in
     let fresh = subst (λ u. IsFreshFor u.slot u.image c.args.block) c.deref.ensures (c.is_fresh.ensures c.if-not-is_fresh.false) in
     let unit : Content = (generation_of (state_of c.attach.new.self) 0 c.in_ok-attached.attached.age).unit in
     all_one (λ (b : Parts). IsFreshFor unit.slot unit.image b) c.args.block (subst (λ (u : Content). IsFreshFor u.slot u.image c.args.block) (c.in_ok-attached.ensures.unit ∙ sym made.unit) fresh)
@@ -25,4 +25,4 @@ merge-requires-clause-fresh c =
 pub detach-requires : goal.detach-requires
 detach-requires c =
     c.merges_keep.ensures c.attach.new.self c.merge.new.self c.args.guest 0 c.in_ok-attached.attached.age _ _ 0 c.in_ok-attached.attached.age c.in_ok-merged.ensures.ok
-    (c.attached_is_held.ensures c.args.registry.now c.attach.new.self c.args.guest 0 c.args.file c.in_ok-attached.attached.age c.in_ok-attached.attached.version (omega (arith, c.slot_count.ensures)) c.in_ok-attached.ensures.ok).held
+    (c.attached_is_held.ensures c.args.registry.now c.attach.new.self c.args.guest 0 c.args.file c.in_ok-attached.attached.age c.in_ok-attached.attached.version (omega (arith, c.slot_count.ensures.slots)) c.in_ok-attached.ensures.ok).held

@@ -5,7 +5,7 @@ use Rattle.unit_set.specs.Slot.{Slot}
 use Rattle.registry.specs.Content.{Content}
 use Rattle.registry.specs.State.{with_at}
 use Rattle.registry.specs.Opening.{Opening, empty_at, image_at, slot_at}
-use Rattle.registry.specs.Registry.{attached, slot_in, age_of, attach_age}
+use Rattle.registry.specs.Registry.{attached, slot_in, age_of, attach_age, attach_generation}
 use Rattle.registry.specs.History.{History, IsNamed, has_file}
 use Rattle.registry.proofs.Keeps.{attach_image, attach_kept, attach_slot, named_at, passing_le}
 use Rattle.registry.proofs.registry.Registry.attach.Goals as goal
@@ -27,7 +27,8 @@ invariant_of-self-2 c =
     let files = ap (λ (h : History). length h.opening.codes) c.self.view_is in
     attach_kept _ _ _ _ _ _ _ _ c.self.invariant _ _ _ c.args.guest c.args.slot c.args.file c.in_ok-attached.attached.age c.in_ok-attached.attached.version
     (omega (arith, c.requires.slot_there, slots, c.self.invariant.slots)) (omega (arith, c.requires.file_there, files))
-    (c.in_ok-attached.ensures.told.age ∙ ap (λ (u : Content). attach_age (age_of u.image gs) gs) blank) (cc) (omega (arith, c.in_ok-reserve.ensures.ok))
+    (c.in_ok-attached.ensures.told.age ∙ ap (λ (u : Content). attach_age (age_of u.image gs) gs) blank)
+    (c.in_ok-attached.ensures.told.version ∙ ap (λ (u : Content). (attach_generation u gs (age_of u.image gs)).version) blank) (cc) (omega (arith, c.in_ok-reserve.ensures.ok))
     (c.in_ok-attached.ensures.new ∙ ap (λ (u : Content). with_at (attached u) c.args.slot c.self.inside.slots.items) blank)
 
 pub returns-clause-image : goal.returns-clause-image
