@@ -5,7 +5,7 @@ use Rattle.block_ledger.specs.Requests.{Asking}
 -- how many before each request since the one before, where so many had begun
 abbrev pub legs_from : ℕ → List Asking → List ℕ
 legs_from before [] = []
-legs_from before (r ∷ rs) = r.blocks - before ∷ legs_from r.blocks rs
+legs_from before (r ∷ rs) = (r.blocks - before) ∷ legs_from r.blocks rs
 
 -- how many had begun before the last of these requests
 abbrev pub blocks_at : ℕ → List Asking → ℕ
