@@ -1,5 +1,5 @@
 -- Room is made, and the run goes on.
-use Rattle.std.proofs.Common.{◌≡◌, ℕ, ◌+◌, ◌/◌, ◌<◌, ◌%◌, ◌||◌, Bool, true, false, cond, List, [], ◌∷◌, drop, length, slice_index_or, Option, Some, None, Result, Ok, refl, sym, ◌∙◌, ap, subst, arith, inl, inr}
+use Rattle.std.proofs.Common.{◌≡◌, ℕ, ◌+◌, ◌/◌, ◌<◌, ◌%◌, ◌||◌, Bool, true, false, cond, List, [], ◌∷◌, ◌++◌, drop, length, slice_index_or, Option, Some, None, Result, Ok, refl, sym, ◌∙◌, ap, subst, arith, inl, inr}
 use Rattle.std.specs.Prelude.{is_some, IsErr}
 use Rattle.std.specs.List.{list_any}
 use Rattle.std.specs.Option.{option_map}
@@ -21,9 +21,10 @@ use Rattle.guest_proc.specs.declared.stop.Stop.TheVariants as stop
 use Rattle.guest_proc.specs.Kept.{Keeps, image_at}
 use Rattle.guest_proc.specs.Maps.{put_to}
 use Rattle.guest_proc.specs.Process.{Process, RanOn, stop_of}
-use Rattle.map_laws.specs.Room.{roomy}
+use Rattle.map_laws.specs.Room.{room_made, roomy}
+use Rattle.map_laws.proofs.Calling.{offers-none, take-both, take-nothing}
 use Rattle.map_laws.proofs.Roomy.{room-goes-on, room-is-there}
-use Rattle.guest_loop.specs.Room.{Ahead, AreAttached, end_in, is_full, turns_left, waits}
+use Rattle.guest_loop.specs.Room.{Ahead, AreAttached, RanFar, end_in, is_full, turns_left, waits}
 
 -- ---- segments stay attached, with their code
 
@@ -136,12 +137,20 @@ pub not-spent : {A E : Type 0} (spent : Bool) (r : Result A E) (x : A) → r ≡
 not-spent false r x ok err = refl
 not-spent true r x ok err = absurd (no-error r x ok (err refl))
 
-pub ahead-room : (scheme : Scheme) (old first now new : Process) → 0 < scheme.pool → IsMemory now.state.memory → now.state.cpu.pc % 4 ≡ 0 → Ahead scheme old first → RanOn scheme first now stop.PoolFull → new ≡ roomy now → Ahead scheme old new
-ahead-room scheme old first now new big good aligned a ran is = λ last s more. a last s (room-goes-on scheme first now last s big good aligned ran (subst (λ q. RanOn scheme q last s) is more))
+-- a run that makes no request
+pub ran-far : (scheme : Scheme) (old new : Process) (s : Stop) → RanOn scheme [] old new s → RanFar scheme old new s
+ran-far scheme old new s ran = record { made = []; quiet = take-nothing; ran = ran }
 
-pub turns-less : (scheme : Scheme) (old now new : Process) → 0 < scheme.pool → RanOn scheme old now stop.PoolFull → new ≡ roomy now → turns_left scheme.pool new < turns_left scheme.pool old
+pub ahead-room : (scheme : Scheme) (old first now new : Process) → 0 < scheme.pool → IsMemory now.state.memory → now.state.cpu.pc % 4 ≡ 0 → Ahead scheme old first → RanOn scheme [] first now stop.PoolFull → new ≡ roomy now → Ahead scheme old new
+ahead-room scheme old first now new big good aligned a ran is = λ last s more. a last s (record {
+  made = room_made now ++ more.made;
+  quiet = take-both (room_made now) more.made (offers-none (fin.keys now.ledger.segments) now.ledger) more.quiet;
+  ran = room-goes-on scheme [] more.made first now last s big good aligned ran (subst (λ q. RanOn scheme more.made q last s) is more.ran);
+})
+
+pub turns-less : (scheme : Scheme) (old now new : Process) → 0 < scheme.pool → RanOn scheme [] old now stop.PoolFull → new ≡ roomy now → turns_left scheme.pool new < turns_left scheme.pool old
 turns-less scheme old now new big ran is =
-    let none : waits (stop_of scheme.pool new) ≡ 0 = ap (λ q. waits (stop_of scheme.pool q)) is ∙ ap waits (room-is-there scheme old now big ran) in
+    let none : waits (stop_of scheme.pool new) ≡ 0 = ap (λ q. waits (stop_of scheme.pool q)) is ∙ ap waits (room-is-there scheme [] old now big ran) in
     let fuel : new.fuel ≡ now.fuel = ap (λ (q : Process). q.fuel) is in
     elim ran.spends [
       | inl first ↦

@@ -19,13 +19,15 @@ use Rattle.plain_machine.specs.Plain.{IsPlainRun}
 use Rattle.report.specs.Rows.{Rows}
 use Rattle.block_ledger.specs.Ledger.{new_ledger}
 use Rattle.block_ledger.specs.Ledger.{Counts as Counted}
-use Rattle.block_ledger.specs.Traced.{all_attached, codes_of, first_trace, if_started, started, started_at, traced}
+use Rattle.block_ledger.specs.Requests.{Asking, AsksFile}
+use Rattle.block_ledger.specs.Traced.{Trace, all_attached, asking, codes_of, first_trace, if_started, run_trace, started, started_at, traced}
 use Rattle.guest_proc.specs.declared.running.Setup.{Setup}
 use Rattle.guest_proc.specs.Maps.{CannotEnter, entered_state, put_to}
 use Rattle.guest_proc.specs.Process.{Process}
 use Rattle.guest_proc.specs.Started.{first_process, scheme_for}
 use Rattle.map_laws.specs.Own.{answers_to}
-use Rattle.map_laws.specs.Whole.{IsFirst, IsRunBy}
+use Rattle.map_laws.specs.Whole.{IsFirst, IsRunBy, first_asks}
+use Rattle.map_laws.proofs.Calling.{answers-still}
 use Rattle.map_laws.proofs.Whole.{end-is-whole}
 use Rattle.guest_loop.specs.Answer.{RunsOut}
 use Rattle.guest_loop.specs.Attach.{empty_units}
@@ -93,17 +95,22 @@ module _ (files : List Program) (base f : ℕ) (setup : Setup) where
   pub record IsTold (maps : List ℕ) (end : End) (last : Process) : Type 0 where
     pub units : List (List ℕ)
     pub empty : AreEmpty units
-    pub run : IsRunBy w (scheme_for setup) g (f ∷ []) maps units end last
+    pub requests : List Asking
+    pub run : IsRunBy w (scheme_for setup) g (f ∷ []) maps units requests end last
 
   pub is-told : (old first last : Process) (before maps : List ℕ) (end : End) → old ≡ first_process setup → IsBegun (scheme_for setup) files base f old first → before ≡ f ∷ [] → RunsOut w (scheme_for setup) (f ∷ []) before maps first last end → IsTold maps end last
   is-told old first last before maps end is b one r =
       let units : List (List ℕ) = empty_units (codes_of b.program base) in
-      let all : maps ≡ f ∷ answers_to w (f ∷ []) r.runs.calls = r.runs.took ∙ ap (λ xs. xs ++ answers_to w (f ∷ []) r.runs.calls) one in
+      let taken : List ℕ = answers_to w (f ∷ []) r.runs.requests in
+      let all : maps ≡ f ∷ taken = r.runs.took ∙ ap (λ xs. xs ++ taken) one in
+      let s = is-first old first is b in
+      let asked : List Asking = first_asks 0 f (codes_of s.program s.base) ++ (r.runs.requests ++ r.made) in
       record {
         units = units ++ r.runs.units;
         empty = both-empty units r.runs.units (units-empty (codes_of b.program base)) r.runs.empty;
-        run = subst (λ xs. IsRunBy w (scheme_for setup) g (f ∷ []) xs (units ++ r.runs.units) end last) (sym all)
-            (end-is-whole w (scheme_for setup) g (f ∷ []) f units r.runs.units r.runs.calls first r.mid last end (is-first old first is b) r.runs.goes r.ends);
+        requests = asked;
+        run = subst (λ xs. IsRunBy w (scheme_for setup) g (f ∷ []) xs (units ++ r.runs.units) asked end last) (sym all)
+            (end-is-whole w (scheme_for setup) g (f ∷ []) f taken units r.runs.units r.runs.requests r.made first r.mid last end s r.runs.goes r.ends (sym (answers-still w (f ∷ []) r.runs.requests r.made r.quiet)));
       }
 
   -- ---- a guest that cannot be placed
@@ -123,9 +130,15 @@ module _ (files : List Program) (base f : ℕ) (setup : Setup) where
       let same : last ≡ first_process setup = r.same ∙ is in
       let none : start g f base r.program ≡ None = refused_start r.program (subst (λ (p : Process). CannotEnter r.program base p.state.memory) is r.cannot) in
       let whole : plain w g (f ∷ []) ≡ unstarted (Some ends.Unplaced) [] = plain_none r.program r.known none in
+      let before_it : Trace = asking (AsksFile 0) (first_trace [] []) in
+      let traced_is : run_trace w (scheme_for setup) g (f ∷ []) [] ≡ before_it =
+          ap (λ (x : Run). traced w (scheme_for setup) (cut setup.max 0 None x.states) (started w (scheme_for setup) g (f ∷ []) [])) whole
+          ∙ ap (λ o. started_at (scheme_for setup) g f (Some base) o before_it) r.known
+          ∙ ap (λ o. if_started (scheme_for setup) setup.isa 0 f (codes_of r.program base) o before_it) none in
       record {
         units = [];
         empty = none-empty;
+        requests = before_it.requests;
         run = record {
           plain = record {
             own = ap (λ (x : Run). f ∷ own_answers w (f ∷ []) x.states) (sym whole);
@@ -133,11 +146,8 @@ module _ (files : List Program) (base f : ℕ) (setup : Setup) where
             wrote = ap (λ (x : Run). x.output) whole ∙ ap (λ (p : Process). p.state.io.output) (sym same);
             rows = subst (λ (x : Run). AreRows (events setup.tool (cut setup.max 0 None x.states)) last.report.counts) (sym whole) (no_rows last.report.counts (ap (λ (p : Process). p.report.counts) same));
           };
-          ledger =
-              ap (λ (x : Run). (traced w (scheme_for setup) (cut setup.max 0 None x.states) (started w (scheme_for setup) g (f ∷ []) [])).ledger) whole
-              ∙ ap (λ o. (started_at (scheme_for setup) g f (Some base) o (first_trace [] [])).ledger) r.known
-              ∙ ap (λ o. (if_started (scheme_for setup) setup.isa 0 (codes_of r.program base) o (first_trace [] [])).ledger) none
-              ∙ ap (λ (p : Process). p.ledger) (sym same);
+          ledger = ap (λ (t : Trace). t.ledger) traced_is ∙ ap (λ (p : Process). p.ledger) (sym same);
+          asked = ap (λ (t : Trace). t.requests) traced_is;
         };
       }
 

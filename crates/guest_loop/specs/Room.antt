@@ -3,10 +3,12 @@ use Rattle.std.specs.Prelude.{◌≡◌, ℕ, ◌+◌, ◌*◌, Bool, true, fals
 use Rattle.std.specs.FinMap as fin
 use Rattle.plain_machine.specs.declared.ends.End.{End}
 use Rattle.block_ledger.specs.Ledger.{Ledger}
+use Rattle.block_ledger.specs.Requests.{Asking}
 use Rattle.block_ledger.specs.Traced.{Scheme}
 use Rattle.guest_proc.specs.declared.stop.Stop.{Stop}
 use Rattle.guest_proc.specs.declared.stop.Stop.TheVariants as stop
 use Rattle.guest_proc.specs.Process.{Process, RanOn, stop_of}
+use Rattle.map_laws.specs.Own.{TakesNone}
 
 abbrev pub is_full : Stop → Bool
 is_full stop.PoolFull = true
@@ -23,9 +25,15 @@ end_in (stop.Unmap k) = None
 end_in (stop.Replace k f) = None
 end_in stop.PoolFull = None
 
+-- Blocks were run up to a stop, and room was made wherever the pool was full, for which no file was asked.
+pub record RanFar (scheme : Scheme) (old new : Process) (s : Stop) : Type 0 where
+  pub made : List Asking
+  pub quiet : TakesNone made
+  pub ran : RanOn scheme made old new s
+
 -- Wherever a run from now comes to, a run from old comes to as well.
 abbrev pub Ahead : Scheme → Process → Process → Type 0
-Ahead scheme old now = (new : Process) (s : Stop) → RanOn scheme now new s → RanOn scheme old new s
+Ahead scheme old now = (new : Process) (s : Stop) → RanFar scheme now new s → RanFar scheme old new s
 
 -- these segments are attached
 abbrev pub AreAttached : List ℕ → Ledger → Type 0

@@ -4,9 +4,8 @@ ghost use Rattle.std.specs.FinMap as fin;
 ghost use Rattle.block_ledger.specs.Ledger.{all_offered};
 ghost use Rattle.guest_proc.specs.Kept.{Keeps, StopsWell, process_of, scheme_of};
 ghost use Rattle.guest_proc.specs.Maps.{put_to};
-ghost use Rattle.guest_proc.specs.Process.{RanOn};
 ghost use Rattle.map_laws.specs.Room.{roomy};
-ghost use Rattle.guest_loop.specs.Room.{AreAttached, end_in, is_full};
+ghost use Rattle.guest_loop.specs.Room.{AreAttached, RanFar, end_in, is_full};
 
 use block_book::Book;
 use cc_base::Steps;
@@ -21,7 +20,7 @@ pub fn run_on<B: Book, L: Ledger>(
     guest: &mut Proc<B>,
     steps: &mut Steps<L>,
 ) -> Result<Stop, AllocError>
-    ensures ran { IfOk result (RanOn (scheme_of guest.old.at guest.old.limits) (process_of guest.old.at (B.ledger guest.old.book)) (process_of guest.new.at (B.ledger guest.new.book))) }
+    ensures ran { IfOk result (RanFar (scheme_of guest.old.at guest.old.limits) (process_of guest.old.at (B.ledger guest.old.book)) (process_of guest.new.at (B.ledger guest.new.book))) }
     ensures full { IfOk result (λ stop. is_full stop ≡ false) }
     ensures keeps { OnOk result (Keeps (process_of guest.old.at (B.ledger guest.old.book)) (process_of guest.new.at (B.ledger guest.new.book))) }
     ensures asks { IfOk result (λ stop. StopsWell (Some stop) guest.new.at.io) }

@@ -9,7 +9,7 @@ use Rattle.guest_proc.specs.Process.{Process}
 use Rattle.guest_loop.specs.Hosted.{IsHosted}
 use Rattle.guest_loop.proofs.Answering.{unmapped-answered}
 use Rattle.guest_loop.proofs.Hosting.{file-stands, file-within, found-file, hosted-kept, hosted-result, hosted-unplaced, is-placed, same-top}
-use Rattle.guest_loop.proofs.Rooming.{keys-attached, offers-keep}
+use Rattle.guest_loop.proofs.Rooming.{offers-keep}
 use Rattle.guest_loop.proofs.answer.unmap.Goals as goal
 
 pub unreachable-requires : goal.unreachable-requires
@@ -35,7 +35,7 @@ pub returns-clause-answers : goal.returns-clause-answers
 returns-clause-answers g c =
     let old : Process = (process_of c.args.guest.now.at (g.B.Book.ledger c.args.guest.now.book)) in
     unmapped-answered c.args.elfs.now c.args.module.now.base (scheme_of c.args.guest.now.at c.args.guest.now.limits) c.args.current c.in-Some.file c.elf_at.result.now c.args.maps.now.items (fin.keys old.ledger.segments) c.args.number old (process_of c.offer_all.new.guest.at (g.B.Book.ledger c.offer_all.new.guest.book)) (process_of c.unplace.new.self.at (g.B.Book.ledger c.unplace.new.self.book)) (process_of c.answer.new.self.at (g.B.Book.ledger c.answer.new.self.book))
-    (c.requires.hosted.alone c.args.number c.requires.asks) c.requires.hosted (keys-attached old.ledger (fin.keys old.ledger.segments) refl) (sym c.in-Some.is ∙ c.file_of.ensures) c.elf_at.ensures c.in_ok-offer_all.ensures.offered c.unplace.ensures.becomes c.answer.ensures.becomes
+    (c.requires.hosted.alone c.args.number c.requires.asks) c.requires.hosted refl (sym c.in-Some.is ∙ c.file_of.ensures) c.elf_at.ensures c.in_ok-offer_all.ensures.offered c.unplace.ensures.becomes c.answer.ensures.becomes
 
 pub returns-clause-hosted : goal.returns-clause-hosted
 returns-clause-hosted g c =
