@@ -41,20 +41,44 @@ abbrev pub merged_text : Merged → List ℕ
 merged_text (Version version) = codes " version" ++ number version
 merged_text (UnitFull count) = codes " full" ++ number count
 
--- an entry, by the names of guests and slots
-unfoldable pub entry_text : List (List ℕ) → List Slot → Entry → List ℕ
-entry_text guests slots (Map g m file) = codes "map " ++ guest_name guests g ++ number m ++ file_text file
-entry_text guests slots (Replace g m file reply) = codes "replace " ++ guest_name guests g ++ numbers (m ∷ file ∷ []) ++ replaced_text reply
-entry_text guests slots (Attach g s file age version) = codes "attach " ++ both_names guests g slots s ++ numbers (file ∷ age ∷ version ∷ [])
-entry_text guests slots (Merge g s age addrs reply) = codes "merge " ++ both_names guests g slots s ++ numbers (age ∷ length addrs ∷ []) ++ merged_text reply
-entry_text guests slots (Detach g s age) = codes "detach " ++ both_names guests g slots s ++ number age
-entry_text guests slots (Due s age version) = codes "due " ++ slot_name slots s ++ numbers (age ∷ version ∷ [])
-entry_text guests slots (Acked s age version) = codes "acked " ++ slot_name slots s ++ numbers (age ∷ version ∷ [])
-entry_text guests slots (Failed s) = codes "failed " ++ slot_name slots s
-entry_text guests slots Finish = codes "finish"
+-- what was called
+abbrev pub call_text : Entry → List ℕ
+call_text (Map g m file) = codes "map "
+call_text (Replace g m file reply) = codes "replace "
+call_text (Attach g s file age version) = codes "attach "
+call_text (Merge g s age addrs reply) = codes "merge "
+call_text (Detach g s age) = codes "detach "
+call_text (Due s age version) = codes "due "
+call_text (Acked s age version) = codes "acked "
+call_text (Failed s) = codes "failed "
+call_text Finish = codes "finish"
+
+-- the names of its guest and its slot
+abbrev pub entry_names : List (List ℕ) → List Slot → Entry → List ℕ
+entry_names guests slots (Map g m file) = guest_name guests g
+entry_names guests slots (Replace g m file reply) = guest_name guests g
+entry_names guests slots (Attach g s file age version) = both_names guests g slots s
+entry_names guests slots (Merge g s age addrs reply) = both_names guests g slots s
+entry_names guests slots (Detach g s age) = both_names guests g slots s
+entry_names guests slots (Due s age version) = slot_name slots s
+entry_names guests slots (Acked s age version) = slot_name slots s
+entry_names guests slots (Failed s) = slot_name slots s
+entry_names guests slots Finish = []
+
+-- its numbers, and the reply. Of addresses their number is told
+abbrev pub entry_numbers : Entry → List ℕ
+entry_numbers (Map g m file) = number m ++ file_text file
+entry_numbers (Replace g m file reply) = numbers (m ∷ file ∷ []) ++ replaced_text reply
+entry_numbers (Attach g s file age version) = numbers (file ∷ age ∷ version ∷ [])
+entry_numbers (Merge g s age addrs reply) = numbers (age ∷ length addrs ∷ []) ++ merged_text reply
+entry_numbers (Detach g s age) = number age
+entry_numbers (Due s age version) = numbers (age ∷ version ∷ [])
+entry_numbers (Acked s age version) = numbers (age ∷ version ∷ [])
+entry_numbers (Failed s) = []
+entry_numbers Finish = []
 
 abbrev pub entry_line : List (List ℕ) → List Slot → Entry → List ℕ
-entry_line guests slots e = entry_text guests slots e ++ codes "\n"
+entry_line guests slots e = call_text e ++ entry_names guests slots e ++ entry_numbers e ++ codes "\n"
 
 -- how many entries a journal has, and a line for each
 abbrev pub journal_lines : List (List ℕ) → List Slot → List Entry → List ℕ

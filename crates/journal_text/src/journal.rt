@@ -1,6 +1,6 @@
 // The lines of a journal.
 ghost use Rattle.std.specs.Prelude.{◌≡◌, ◌++◌, ◌∷◌, [], codes, OnOk, OnErr};
-ghost use Rattle.journal_text.specs.Journal.{number, numbers, guest_name, slot_name, both_names, file_text, replaced_text, merged_text, entry_text, entry_line, journal_lines};
+ghost use Rattle.journal_text.specs.Journal.{number, numbers, guest_name, slot_name, both_names, file_text, replaced_text, merged_text, call_text, entry_names, entry_numbers, entry_line, journal_lines};
 
 use crate::names::{push_both, push_guest, push_number, push_numbers, push_slot};
 use cc_base::Name;
@@ -39,89 +39,98 @@ fn push_line(
 ) -> Result<(), AllocError>
     ensures { OnOk result (out.new.items ≡ out.old.items ++ entry_line guests.now slots.now entry.now) }
 {
-    push_entry(alloc, out, guests, slots, entry)?;
+    out.extend_from_slice(call_text(entry))?;
+    push_names(alloc, out, guests, slots, entry)?;
+    push_entry_numbers(out, entry)?;
     out.extend_from_slice(b"\n")
 }
 
-// Appends an entry.
-#[tactic(auto, unfolding(crate::specs::Journal::entry_text))]
-fn push_entry(
+// Appends the names of its guest and its slot.
+fn push_names(
     alloc: Global,
     out: &mut Vec<u8>,
     guests: &[Name],
     slots: &[SlotName],
     entry: &Entry,
 ) -> Result<(), AllocError>
-    ensures { OnOk result (out.new.items ≡ out.old.items ++ entry_text guests.now slots.now entry.now) }
+    ensures { OnOk result (out.new.items ≡ out.old.items ++ entry_names guests.now slots.now entry.now) }
 {
     match entry {
-        Entry::Map {
-            guest,
-            module,
-            file,
-        } => {
-            out.extend_from_slice(b"map ")?;
-            push_guest(out, guests, *guest)?;
+        Entry::Map { guest, .. } => push_guest(out, guests, *guest),
+        Entry::Replace { guest, .. } => push_guest(out, guests, *guest),
+        Entry::Attach { guest, slot, .. } => push_both(alloc, out, guests, *guest, slots, *slot),
+        Entry::Merge { guest, slot, .. } => push_both(alloc, out, guests, *guest, slots, *slot),
+        Entry::Detach { guest, slot, .. } => push_both(alloc, out, guests, *guest, slots, *slot),
+        Entry::Due { slot, .. } => push_slot(alloc, out, slots, *slot),
+        Entry::Acked { slot, .. } => push_slot(alloc, out, slots, *slot),
+        Entry::Failed { slot } => push_slot(alloc, out, slots, *slot),
+        Entry::Finish => Ok(()),
+    }
+}
+
+fn call_text(entry: &Entry) -> &'static [u8]
+    ensures text { result.now ≡ call_text entry.now }
+{
+    match entry {
+        Entry::Map { .. } => b"map ",
+        Entry::Replace { .. } => b"replace ",
+        Entry::Attach { .. } => b"attach ",
+        Entry::Merge { .. } => b"merge ",
+        Entry::Detach { .. } => b"detach ",
+        Entry::Due { .. } => b"due ",
+        Entry::Acked { .. } => b"acked ",
+        Entry::Failed { .. } => b"failed ",
+        Entry::Finish => b"finish",
+    }
+}
+
+// Appends its numbers, and the reply.
+fn push_entry_numbers(out: &mut Vec<u8>, entry: &Entry) -> Result<(), AllocError>
+    ensures { OnOk result (out.new.items ≡ out.old.items ++ entry_numbers entry.now) }
+{
+    match entry {
+        Entry::Map { module, file, .. } => {
             push_number(out, u64::from(*module))?;
             push_file(out, *file)
         }
         Entry::Replace {
-            guest,
             module,
             file,
             reply,
+            ..
         } => {
-            out.extend_from_slice(b"replace ")?;
-            push_guest(out, guests, *guest)?;
             push_numbers(out, &[u64::from(*module), u64::from(*file)])?;
             out.extend_from_slice(replaced_text(*reply))
         }
         Entry::Attach {
-            guest,
-            slot,
             file,
             age,
             version,
-        } => {
-            out.extend_from_slice(b"attach ")?;
-            push_both(alloc, out, guests, *guest, slots, *slot)?;
-            push_numbers(
-                out,
-                &[u64::from(*file), u64::from(*age), u64::from(*version)],
-            )
-        }
+            ..
+        } => push_numbers(
+            out,
+            &[u64::from(*file), u64::from(*age), u64::from(*version)],
+        ),
         Entry::Merge {
-            guest,
-            slot,
             age,
             addrs,
             reply,
+            ..
         } => {
-            out.extend_from_slice(b"merge ")?;
-            push_both(alloc, out, guests, *guest, slots, *slot)?;
             push_numbers(out, &[u64::from(*age), addrs.items().len() as u64])?;
             push_merged(out, *reply)
         }
-        Entry::Detach { guest, slot, age } => {
-            out.extend_from_slice(b"detach ")?;
-            push_both(alloc, out, guests, *guest, slots, *slot)?;
-            push_number(out, u64::from(*age))
-        }
-        Entry::Due { slot, age, version } => {
-            out.extend_from_slice(b"due ")?;
-            push_slot(alloc, out, slots, *slot)?;
-            push_numbers(out, &[u64::from(*age), u64::from(*version)])
-        }
-        Entry::Acked { slot, age, version } => {
-            out.extend_from_slice(b"acked ")?;
-            push_slot(alloc, out, slots, *slot)?;
-            push_numbers(out, &[u64::from(*age), u64::from(*version)])
-        }
-        Entry::Failed { slot } => {
-            out.extend_from_slice(b"failed ")?;
-            push_slot(alloc, out, slots, *slot)
-        }
-        Entry::Finish => out.extend_from_slice(b"finish"),
+        Entry::Detach { age, .. } => push_number(out, u64::from(*age)),
+        Entry::Due { age, version, .. } => push_numbers(
+            out,
+            &[u64::from(*age), u64::from(*version)],
+        ),
+        Entry::Acked { age, version, .. } => push_numbers(
+            out,
+            &[u64::from(*age), u64::from(*version)],
+        ),
+        Entry::Failed { .. } => Ok(()),
+        Entry::Finish => Ok(()),
     }
 }
 
