@@ -69,10 +69,10 @@ images-all [] led j = refl
 images-all (k ∷ ks) led j = images-all ks (offered k led) j ∙ image-to k j (fin.get led.segments k) led refl
 
 pub offers-keep : (ks : List ℕ) (p new : Process) → new ≡ put_to p p.state (all_offered ks p.ledger) → Keeps p new
-offers-keep ks p new is = subst (λ (q : Process). Keeps p q) (sym is) (record { images = images-all ks p.ledger; mapped = refl; stand = λ x kind s. s })
+offers-keep ks p new is = subst (λ (q : Process). Keeps p q) (sym is) (record { images = images-all ks p.ledger; mapped = refl; isa = refl; stand = λ x kind s. s })
 
 pub room-keeps : (p new : Process) → new ≡ roomy p → Keeps p new
-room-keeps p new is = subst (λ (q : Process). Keeps p q) (sym is) (record { images = images-all (fin.keys p.ledger.segments) p.ledger; mapped = refl; stand = λ x kind s. s })
+room-keeps p new is = subst (λ (q : Process). Keeps p q) (sym is) (record { images = images-all (fin.keys p.ledger.segments) p.ledger; mapped = refl; isa = refl; stand = λ x kind s. s })
 
 -- ---- the offers
 

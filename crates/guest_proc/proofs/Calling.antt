@@ -150,6 +150,7 @@ call-done cpu c m after io now fuel rows led last a s good inert even is told_so
       segments = segments_told a led;
       counts = counts_told a led;
       modules = kept.mapped;
+      isa = kept.isa;
       stand = kept.stand;
       asks = asks_well cpu.pc a now kept.asks;
     } in

@@ -92,10 +92,10 @@ pub came-to-want : (scheme : Scheme) (old mid : Process) → WentOn scheme old m
 came-to-want scheme old mid a wants = record { reached = mid; went = a.goes; wants = wants }
 
 pub keeps-all : (p : Process) → Keeps p p
-keeps-all p = record { images = λ i. refl; mapped = refl; stand = λ x kind s. s }
+keeps-all p = record { images = λ i. refl; mapped = refl; isa = refl; stand = λ x kind s. s }
 
 pub keeps-both : (old mid new : Process) → Keeps old mid → Keeps mid new → Keeps old new
-keeps-both old mid new a b = record { images = λ i. b.images i ∙ a.images i; mapped = b.mapped ∙ a.mapped; stand = λ x kind s. b.stand x kind (a.stand x kind s) }
+keeps-both old mid new a b = record { images = λ i. b.images i ∙ a.images i; mapped = b.mapped ∙ a.mapped; isa = b.isa ∙ a.isa; stand = λ x kind s. b.stand x kind (a.stand x kind s) }
 
 pub made-none : (built steps : ℕ) (taken : Taken) → AreMade built built steps steps taken taken
 made-none built steps taken = record { later = omega arith; more = []; took = sym (append-nil taken); sum = omega arith }

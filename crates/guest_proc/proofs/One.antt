@@ -131,9 +131,9 @@ less_few a b c x y few less one = omega arith
 pub after-block : (scheme : Scheme) (cpu c : Cpu) (m after : Memory) (io : Io) (fuel rest : ℕ) (rows more : Rows) (led ready last : Ledger) (r : Ran) →
     IsReady scheme (process cpu m io fuel rows led) → scheme.tool ≡ rows.tool → stop_of scheme.pool (process cpu m io fuel rows led) ≡ None → HasBegun rows.tool scheme.max cpu.isa m cpu.pc led ready →
     ((s : Scheme) (i : Io) (l : Ledger) (block : Parts) → s.tool ≡ rows.tool → s.max ≡ scheme.max → view ready cpu.pc ≡ Some block → BlockBegins s block l ready → RanBlock s (process cpu m i fuel rows l) (process c after i rest more last) r) →
-    AreFresh rows.tool scheme.max c.isa after last → AreMapped after last → SameRegions m after → last.segments ≡ ready.segments → last.counts ≡ ready.counts → c.pc % 4 ≡ 0 → rest < fuel → ((key : ℕ) → count_at more.counts key + rest < 2 ^ 64) → more.tool ≡ rows.tool →
+    AreFresh rows.tool scheme.max c.isa after last → AreMapped after last → SameRegions m after → last.segments ≡ ready.segments → last.counts ≡ ready.counts → c.pc % 4 ≡ 0 → rest < fuel → ((key : ℕ) → count_at more.counts key + rest < 2 ^ 64) → more.tool ≡ rows.tool → c.isa ≡ cpu.isa →
     AfterBlock scheme (process cpu m io fuel rows led) (process c after io rest more last) r
-after-block scheme cpu c m after io fuel rest rows more led ready last r was tool none b ran fresh mapped regions segments counts even less small same_tool =
+after-block scheme cpu c m after io fuel rest rows more led ready last r was tool none b ran fresh mapped regions segments counts even less small same_tool same_isa =
     let begins = no-stop scheme.pool (process cpu m io fuel rows led) none in
     let one : last.counts.blocks ≡ led.counts.blocks + 1 = ap (λ k. k.blocks) counts ∙ ap (λ l. l.counts.blocks) b.ledger ∙ one-more b.block led in
     record {
@@ -150,6 +150,7 @@ after-block scheme cpu c m after io fuel rest rows more led ready last r was too
       keeps = record {
         images = same-images led last (segments ∙ begun_segments rows.tool scheme.max cpu.isa m cpu.pc led ready b);
         mapped = refl;
+        isa = same_isa;
         stand = stand-same m after io.heap regions;
       };
     }
@@ -179,6 +180,7 @@ after-call scheme old cpu c m after io now fuel rows led last s some b done = re
   keeps = record {
     images = λ i. same-images led last done.segments i ∙ b.keeps.images i;
     mapped = done.modules ∙ b.keeps.mapped;
+    isa = done.isa ∙ b.keeps.isa;
     stand = λ x kind s. done.stand x kind (b.keeps.stand x kind s);
   };
   asks = done.asks;

@@ -45,5 +45,6 @@ pub record CallDone (old new : Process) (s : Option Stop) : Type 0 where
   pub segments : new.ledger.segments ≡ old.ledger.segments
   pub counts : new.ledger.counts ≡ old.ledger.counts
   pub modules : new.state.io.mapped ≡ old.state.io.mapped
+  pub isa : new.state.cpu.isa ≡ old.state.cpu.isa
   pub stand : StandOn old.state.memory old.state.io.heap new.state.memory new.state.io.heap
   pub asks : StopsWell s new.state.io

@@ -43,6 +43,7 @@ image_at led i = option_map (λ (x : Segment). x.image) (fin.get led.segments i)
 pub record Keeps (old new : Process) : Type 0 where
   pub images : (i : ℕ) → image_at new.ledger i ≡ image_at old.ledger i
   pub mapped : new.state.io.mapped ≡ old.state.io.mapped
+  pub isa : new.state.cpu.isa ≡ old.state.cpu.isa
   pub stand : StandOn old.state.memory old.state.io.heap new.state.memory new.state.io.heap
 
 -- a module that is to be mapped is not, and one that is to go is

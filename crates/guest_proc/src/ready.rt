@@ -47,6 +47,7 @@ pub fn run_ready<B: Book>(
     ensures segments { IfOk result (λ ran. (B.ledger book.new).segments ≡ (B.ledger book.old).segments) }
     ensures counts { IfOk result (λ ran. (B.ledger book.new).counts ≡ (B.ledger book.old).counts) }
     ensures aligned { cpu.new.pc % 4 ≡ 0 }
+    ensures isa { cpu.new.isa ≡ cpu.old.isa }
     ensures less { IfOk result (λ ran. fuel.new < fuel.old) }
     ensures small { (key : ℕ) → count_at report.new.counts key + fuel.new < 2 ^ 64 }
     ensures tool { report.new.tool ≡ report.old.tool }
