@@ -13,7 +13,7 @@ use Rattle.plain_machine.specs.Program.{Program, entry_of, placed, top_of}
 use Rattle.plain_machine.specs.Machine.{Guest, Setting, stack_of, start, start_at}
 use Rattle.plain_machine.specs.Run.{Run, plain, run_from, run_of, unstarted}
 use Rattle.plain_machine.specs.Cut.{cut}
-use Rattle.plain_machine.specs.Own.{own_answers}
+use Rattle.plain_machine.specs.Own.{AreOwn, own_answers}
 use Rattle.plain_machine.specs.Events.{events}
 use Rattle.plain_machine.specs.Plain.{IsPlainRun}
 use Rattle.report.specs.Rows.{Rows}
@@ -28,7 +28,7 @@ use Rattle.guest_proc.specs.Started.{first_process, scheme_for}
 use Rattle.map_laws.specs.Own.{answers_to}
 use Rattle.map_laws.specs.Whole.{IsFirst, IsRunBy, first_asks}
 use Rattle.map_laws.proofs.Calling.{answers-still}
-use Rattle.map_laws.proofs.Whole.{end-is-whole}
+use Rattle.map_laws.proofs.Whole.{end-is-own, end-is-whole}
 use Rattle.guest_loop.specs.Answer.{RunsOut}
 use Rattle.guest_loop.specs.Attach.{empty_units}
 use Rattle.guest_loop.specs.Plain.{AreEmpty, HasCounts, guest_of, one_module}
@@ -69,13 +69,12 @@ module _ (files : List Program) (base f : ℕ) (setup : Setup) where
   attached_to codes p = put_to p p.state (all_attached (scheme_for setup) p.state.cpu.isa 0 0 codes (empty_units codes) p.ledger)
 
   first_by : (program : Program) (entry : ℕ) (m : Memory) → slice_get files f ≡ Some program → entry_of program base ≡ Some entry → placed program base (stack_of setup.stack ∷ []) ≡ Ok m →
-      IsFirst w (scheme_for setup) g (f ∷ []) f (empty_units (codes_of program base)) (attached_to (codes_of program base) (begun entry (top_of program base) m))
+      IsFirst w (scheme_for setup) g f (empty_units (codes_of program base)) (attached_to (codes_of program base) (begun entry (top_of program base) m))
   first_by program entry m known entered made = record {
     base = base;
     program = program;
     stands = refl;
     known = known;
-    named = refl;
     starts = ap (λ o. start_at g f o (top_of program base) (placed program base (stack_of setup.stack ∷ []))) entered ∙ ap (start_at g f (Some entry) (top_of program base)) made;
     fuel = refl;
     empty = refl;
@@ -83,11 +82,11 @@ module _ (files : List Program) (base f : ℕ) (setup : Setup) where
     ledger = refl;
   }
 
-  pub is-first : (old new : Process) → old ≡ first_process setup → (b : IsBegun (scheme_for setup) files base f old new) → IsFirst w (scheme_for setup) g (f ∷ []) f (empty_units (codes_of b.program base)) new
+  pub is-first : (old new : Process) → old ≡ first_process setup → (b : IsBegun (scheme_for setup) files base f old new) → IsFirst w (scheme_for setup) g f (empty_units (codes_of b.program base)) new
   is-first old new is b =
       let made : placed b.program base (stack_of setup.stack ∷ []) ≡ Ok b.enters.memory = ap (λ (p : Process). placed b.program base p.state.memory) (sym is) ∙ b.enters.placed in
       let entered : b.entered ≡ begun b.enters.entry (top_of b.program base) b.enters.memory = b.enters.becomes ∙ ap (λ (p : Process). put_to p (entered_state p.state 0 f b.enters.entry (top_of b.program base) b.enters.memory) p.ledger) is in
-      subst (IsFirst w (scheme_for setup) g (f ∷ []) f (empty_units (codes_of b.program base))) (sym (b.attaches ∙ ap (attached_to (codes_of b.program base)) entered))
+      subst (IsFirst w (scheme_for setup) g f (empty_units (codes_of b.program base))) (sym (b.attaches ∙ ap (attached_to (codes_of b.program base)) entered))
       (first_by b.program b.enters.entry b.enters.memory b.known b.enters.entered made)
 
   -- ---- the end
@@ -96,7 +95,8 @@ module _ (files : List Program) (base f : ℕ) (setup : Setup) where
     pub units : List (List ℕ)
     pub empty : AreEmpty units
     pub requests : List Asking
-    pub run : IsRunBy w (scheme_for setup) g (f ∷ []) maps units requests end last
+    pub run : IsRunBy w (scheme_for setup) g maps units requests end last
+    pub own : AreOwn w g (f ∷ []) maps
 
   pub is-told : (old first last : Process) (before maps : List ℕ) (end : End) → old ≡ first_process setup → IsBegun (scheme_for setup) files base f old first → before ≡ f ∷ [] → RunsOut w (scheme_for setup) (f ∷ []) before maps first last end → IsTold maps end last
   is-told old first last before maps end is b one r =
@@ -109,8 +109,10 @@ module _ (files : List Program) (base f : ℕ) (setup : Setup) where
         units = units ++ r.runs.units;
         empty = both-empty units r.runs.units (units-empty (codes_of b.program base)) r.runs.empty;
         requests = asked;
-        run = subst (λ xs. IsRunBy w (scheme_for setup) g (f ∷ []) xs (units ++ r.runs.units) asked end last) (sym all)
-            (end-is-whole w (scheme_for setup) g (f ∷ []) f taken units r.runs.units r.runs.requests r.made first r.mid last end s r.runs.goes r.ends (sym (answers-still w (f ∷ []) r.runs.requests r.made r.quiet)));
+        run = subst (λ xs. IsRunBy w (scheme_for setup) g xs (units ++ r.runs.units) asked end last) (sym all)
+            (end-is-whole w (scheme_for setup) g f taken units r.runs.units r.runs.requests r.made first r.mid last end s r.runs.goes r.ends);
+        own = subst (AreOwn w g (f ∷ [])) (sym all)
+            (end-is-own w (scheme_for setup) g (f ∷ []) f taken units r.runs.units r.runs.requests r.made first r.mid last end s refl r.runs.goes r.ends (sym (answers-still w (f ∷ []) r.runs.requests r.made r.quiet)));
       }
 
   -- ---- a guest that cannot be placed
@@ -140,15 +142,13 @@ module _ (files : List Program) (base f : ℕ) (setup : Setup) where
         empty = none-empty;
         requests = before_it.requests;
         run = record {
-          plain = record {
-            own = ap (λ (x : Run). f ∷ own_answers w (f ∷ []) x.states) (sym whole);
-            complete = record { ends = ap (λ (x : Run). x.end) whole; took_all = ap (λ (x : Run). x.left) whole };
-            wrote = ap (λ (x : Run). x.output) whole ∙ ap (λ (p : Process). p.state.io.output) (sym same);
-            rows = subst (λ (x : Run). AreRows (events setup.tool (cut setup.max 0 None x.states)) last.report.counts) (sym whole) (no_rows last.report.counts (ap (λ (p : Process). p.report.counts) same));
-          };
+          complete = record { ends = ap (λ (x : Run). x.end) whole; took_all = ap (λ (x : Run). x.left) whole };
+          wrote = ap (λ (x : Run). x.output) whole ∙ ap (λ (p : Process). p.state.io.output) (sym same);
+          rows = subst (λ (x : Run). AreRows (events setup.tool (cut setup.max 0 None x.states)) last.report.counts) (sym whole) (no_rows last.report.counts (ap (λ (p : Process). p.report.counts) same));
           ledger = ap (λ (t : Trace). t.ledger) traced_is ∙ ap (λ (p : Process). p.ledger) (sym same);
           asked = ap (λ (t : Trace). t.requests) traced_is;
         };
+        own = ap (λ (x : Run). f ∷ own_answers w (f ∷ []) x.states) (sym whole);
       }
 
   -- ---- what is told
@@ -159,7 +159,7 @@ module _ (files : List Program) (base f : ℕ) (setup : Setup) where
       subst (λ xs. IsPlainRun w g setup.tool setup.max (f ∷ []) xs e output report.counts) (sym same_maps)
       (subst (λ x. IsPlainRun w g setup.tool setup.max (f ∷ []) maps x output report.counts) (sym same_end)
       (subst (λ xs. IsPlainRun w g setup.tool setup.max (f ∷ []) maps end xs report.counts) (sym wrote)
-      (subst (λ (r : Rows). IsPlainRun w g setup.tool setup.max (f ∷ []) maps end last.state.io.output r.counts) (sym same) t.run.plain)))
+      (subst (λ (r : Rows). IsPlainRun w g setup.tool setup.max (f ∷ []) maps end last.state.io.output r.counts) (sym same) (record { own = t.own; complete = t.run.complete; wrote = t.run.wrote; rows = t.run.rows }))))
 
   pub told-counts : (maps items : List ℕ) (end : End) (counts : Counted) (last : Process) → IsTold maps end last → items ≡ maps → counts ≡ last.ledger.counts → HasCounts w (scheme_for setup) g items counts
   told-counts maps items end counts last t same_maps same =

@@ -24,7 +24,7 @@ use Rattle.block_ledger.specs.Traced.{Scheme, Trace, all_attached, asking, codes
 use Rattle.guest_proc.specs.declared.stop.Stop.TheVariants as stop
 use Rattle.guest_proc.specs.Process.{Comes, Process, nothing, trace}
 use Rattle.map_laws.specs.Came.{Came, Goes, attached_from, done}
-use Rattle.map_laws.specs.Whole.{AllAreLetGo, ClosingBegins, EndIsWhole, IsFirst, OneMoreLetGo, first_asks}
+use Rattle.map_laws.specs.Whole.{AllAreLetGo, ClosingBegins, EndIsOwn, EndIsWhole, IsFirst, OneMoreLetGo, first_asks}
 use Rattle.map_laws.proofs.Answering.{came-more}
 use Rattle.map_laws.proofs.Calling.{own-requests}
 use Rattle.map_laws.proofs.Stopping.{comes-ended}
@@ -63,7 +63,7 @@ all-taken scheme isa k f seg codes units rest led maps requests e =
 
 -- ---- the start
 
-module _ (w : Setting) (scheme : Scheme) (g : Guest) (files : List ℕ) (f : ℕ) (before : List (List ℕ)) (first : Process) (s : IsFirst w scheme g files f before first) where
+module _ (w : Setting) (scheme : Scheme) (g : Guest) (f : ℕ) (before : List (List ℕ)) (first : Process) (s : IsFirst w scheme g f before first) where
   -- the plain run is the run from there
   plain_is : (maps : List ℕ) → plain w g (f ∷ maps) ≡ run w first.fuel maps first.state
   plain_is maps =
@@ -115,35 +115,52 @@ ends_so w scheme maps units requests made first mid new end a b =
           ∙ ap (λ us. traced w scheme c.marks (trace first.ledger (maps ++ []) us before)) (sym (append-nil units)) ∙ c.ledger [] [] before;
     }
 
-pub end-is-whole : EndIsWhole
-end-is-whole w scheme g files f maps before units requests made first mid new end s a b answered =
-    let e = ends_so w scheme maps units requests made first mid new end a b in
-    let whole : plain w g (f ∷ maps) ≡ run w first.fuel maps first.state = plain_is w scheme g files f before first s maps in
+-- what is cut of the whole run
+record IsCut (w : Setting) (scheme : Scheme) (g : Guest) (maps : List ℕ) (end : End) (output : List ℕ) (marks : List (State × Bool)) : Type 0 where
+  cuts : cut scheme.max 0 None (plain w g maps).states ≡ marks
+  ends : (plain w g maps).end ≡ Some end
+  left : (plain w g maps).left ≡ []
+  wrote : (plain w g maps).output ≡ output
+
+cut_so : (w : Setting) (scheme : Scheme) (g : Guest) (f : ℕ) (maps : List ℕ) (before units : List (List ℕ)) (requests : List Asking) (first new : Process) (end : End) → IsFirst w scheme g f before first →
+    (e : Ends w scheme maps units requests first new end) → IsCut w scheme g (f ∷ maps) end new.state.io.output e.marks
+cut_so w scheme g f maps before units requests first new end s e =
+    let whole : plain w g (f ∷ maps) ≡ run w first.fuel maps first.state = plain_is w scheme g f before first s maps in
     let cuts : cut scheme.max 0 None (run w first.fuel maps first.state).states ≡ e.marks = ap (λ (v : Marked). v.marks) e.seen ∙ append-nil e.marks in
-    let marks : cut scheme.max 0 None (plain w g (f ∷ maps)).states ≡ e.marks = ap (λ (x : Run). cut scheme.max 0 None x.states) whole ∙ cuts in
-    let states : states_of e.marks ≡ (plain w g (f ∷ maps)).states = ap states_of (sym marks) ∙ cut_states scheme.max (plain w g (f ∷ maps)).states 0 None in
-    let own : maps ≡ own_answers w files (plain w g (f ∷ maps)).states =
-    answered ∙ own-requests w scheme e.marks (trace first.ledger maps units []) (requests ++ made) files refl (ap (λ (t : Trace). t.requests) (e.ledger [])) ∙ ap (own_answers w files) states in
-    let trace_is = ap (λ xs. traced w scheme xs (started w scheme g (f ∷ maps) (before ++ units))) marks ∙ ap (traced w scheme e.marks) (started_is w scheme g files f before first s maps units)
+    record {
+      cuts = ap (λ (x : Run). cut scheme.max 0 None x.states) whole ∙ cuts;
+      ends = ap (λ (x : Run). x.end) whole ∙ ap (λ (v : Marked). v.end) e.seen;
+      left = ap (λ (x : Run). x.left) whole ∙ ap (λ (v : Marked). v.left) e.seen;
+      wrote = ap (λ (x : Run). x.output) whole ∙ ap (λ (v : Marked). v.output) e.seen;
+    }
+
+pub end-is-whole : EndIsWhole
+end-is-whole w scheme g f maps before units requests made first mid new end s a b =
+    let e = ends_so w scheme maps units requests made first mid new end a b in
+    let c = cut_so w scheme g f maps before units (requests ++ made) first new end s e in
+    let trace_is = ap (λ xs. traced w scheme xs (started w scheme g (f ∷ maps) (before ++ units))) c.cuts ∙ ap (traced w scheme e.marks) (started_is w scheme g f before first s maps units)
     ∙ e.ledger (first_asks g.program f (codes_of s.program s.base)) in
     record {
-      plain = record {
-        own = ap (λ xs. f ∷ xs) own ∙ ap (λ o. option_to_list o ++ own_answers w files (plain w g (f ∷ maps)).states) (sym s.named);
-        complete = record {
-          ends = ap (λ (x : Run). x.end) whole ∙ ap (λ (v : Marked). v.end) e.seen;
-          took_all = ap (λ (x : Run). x.left) whole ∙ ap (λ (v : Marked). v.left) e.seen;
-        };
-        wrote = ap (λ (x : Run). x.output) whole ∙ ap (λ (v : Marked). v.output) e.seen;
-        rows = subst (λ xs. AreRows (events scheme.tool xs) new.report.counts) (sym marks) (rows-of (events scheme.tool e.marks) first.report new.report s.empty e.counted);
-      };
+      complete = record { ends = c.ends; took_all = c.left };
+      wrote = c.wrote;
+      rows = subst (λ xs. AreRows (events scheme.tool xs) new.report.counts) (sym c.cuts) (rows-of (events scheme.tool e.marks) first.report new.report s.empty e.counted);
       ledger = ap (λ (t : Trace). t.ledger) trace_is;
       asked = ap (λ (t : Trace). t.requests) trace_is;
     }
 
+pub end-is-own : EndIsOwn
+end-is-own w scheme g files f maps before units requests made first mid new end s named a b answered =
+    let e = ends_so w scheme maps units requests made first mid new end a b in
+    let c = cut_so w scheme g f maps before units (requests ++ made) first new end s e in
+    let states : states_of e.marks ≡ (plain w g (f ∷ maps)).states = ap states_of (sym c.cuts) ∙ cut_states scheme.max (plain w g (f ∷ maps)).states 0 None in
+    let own : maps ≡ own_answers w files (plain w g (f ∷ maps)).states =
+    answered ∙ own-requests w scheme e.marks (trace first.ledger maps units []) (requests ++ made) files refl (ap (λ (t : Trace). t.requests) (e.ledger [])) ∙ ap (own_answers w files) states in
+    ap (λ xs. f ∷ xs) own ∙ ap (λ o. option_to_list o ++ own_answers w files (plain w g (f ∷ maps)).states) (sym named)
+
 -- ---- behind the end
 
 pub closing-begins : ClosingBegins
-closing-begins w scheme g files maps units requests end new r =
+closing-begins w scheme g maps units requests end new r =
     let t : Trace = run_trace w scheme g maps units in
     ap (λ l. t.requests ++ partings (fin.keys l.segments) l) r.ledger ∙ ap (λ rs. rs ++ partings (fin.keys new.ledger.segments) new.ledger) r.asked
 

@@ -2,7 +2,7 @@
 ghost use Rattle.map_laws.specs.Laws.{MapIsAnswered, MapIsRefused, MapIsUnknown, MapWaits, OneMoreAttached, OneMoreLeaves, PlacedAttaches, ReplaceIsAnswered, ReplaceWaits, UnmapIsAnswered, UnmapLeaves, UnmapWaits};
 ghost use Rattle.map_laws.specs.Own.{OffersTakeNone, PartingsTakeNone, UnitsTakeNone};
 ghost use Rattle.map_laws.specs.Room.{AllAreOffered, OfferingBegins, OneMoreOffered, RoomGoesOn, RoomIsThere};
-ghost use Rattle.map_laws.specs.Whole.{AllAreLetGo, ClosingBegins, EndIsWhole, OneMoreLetGo};
+ghost use Rattle.map_laws.specs.Whole.{AllAreLetGo, ClosingBegins, EndIsOwn, EndIsWhole, OneMoreLetGo};
 
 /// A stop at a map call waits for its answer.
 pub fn stops_wait()
@@ -49,9 +49,11 @@ pub fn other_requests_take_none()
     ensures units { UnitsTakeNone }
 {}
 
-/// At the end the run is the guest's plain run, and ledger and requests are those of its states.
+/// At the end the run is the guest's plain run, and ledger and requests are those of its states. The map answers of a guest
+/// that is alone are those that its requests take.
 pub fn the_end_is_the_whole_runs()
-    ensures { EndIsWhole }
+    ensures whole { EndIsWhole }
+    ensures own { EndIsOwn }
 {}
 
 /// Behind the end one segment after the other is offered its candidates and let go; then all is asked that the guest asks.
