@@ -39,12 +39,12 @@ room-is-made scheme block t some wants =
     let made : Ledger = flushed (all_offered is t.ledger) in
     let after : wants_room scheme.pool made block.address ≡ false = room scheme.pool block.address (all_offered is t.ledger) some in
     let ledger : with_block scheme (Some block) made ≡ with_block scheme (Some block) t.ledger =
-        ap (λ b. begun block (if b then flushed (all_offered (fin.keys made.segments) made) else made)) after
-        ∙ sym (ap (λ b. begun block (if b then made else t.ledger)) wants) in
+    ap (λ b. begun block (if b then flushed (all_offered (fin.keys made.segments) made) else made)) after
+    ∙ sym (ap (λ b. begun block (if b then made else t.ledger)) wants) in
     let none : (t.requests ++ offers is t.ledger) ++ room_asks scheme (Some block) made ≡ t.requests ++ offers is t.ledger =
-        ap (λ b. (t.requests ++ offers is t.ledger) ++ (if b then offers (fin.keys made.segments) made else [])) after ∙ append-nil (t.requests ++ offers is t.ledger) in
+    ap (λ b. (t.requests ++ offers is t.ledger) ++ (if b then offers (fin.keys made.segments) made else [])) after ∙ append-nil (t.requests ++ offers is t.ledger) in
     let same : t.requests ++ room_asks scheme (Some block) t.ledger ≡ t.requests ++ offers is t.ledger =
-        ap (λ b. t.requests ++ (if b then offers is t.ledger else [])) wants in
+    ap (λ b. t.requests ++ (if b then offers is t.ledger else [])) wants in
     ap (λ l. record t { ledger = l; requests = (t.requests ++ offers is t.ledger) ++ room_asks scheme (Some block) made }) ledger
     ∙ ap (λ rs. record t { ledger = with_block scheme (Some block) t.ledger; requests = rs }) (none ∙ sym same)
 

@@ -134,9 +134,9 @@ module _ (files : List Program) (base f : ℕ) (setup : Setup) where
       let whole : plain w g (f ∷ []) ≡ unstarted (Some ends.Unplaced) [] = plain_none r.program r.known none in
       let before_it : Trace = asking (AsksFile 0) (first_trace [] []) in
       let traced_is : run_trace w (scheme_for setup) g (f ∷ []) [] ≡ before_it =
-          ap (λ (x : Run). traced w (scheme_for setup) (cut setup.max 0 None x.states) (started w (scheme_for setup) g (f ∷ []) [])) whole
-          ∙ ap (λ o. started_at (scheme_for setup) g f (Some base) o before_it) r.known
-          ∙ ap (λ o. if_started (scheme_for setup) setup.isa 0 f (codes_of r.program base) o before_it) none in
+      ap (λ (x : Run). traced w (scheme_for setup) (cut setup.max 0 None x.states) (started w (scheme_for setup) g (f ∷ []) [])) whole
+      ∙ ap (λ o. started_at (scheme_for setup) g f (Some base) o before_it) r.known
+      ∙ ap (λ o. if_started (scheme_for setup) setup.isa 0 f (codes_of r.program base) o before_it) none in
       record {
         units = [];
         empty = none-empty;

@@ -3,7 +3,7 @@ use Rattle.std.proofs.Common.{◌≡◌, ℕ, ◌+◌, ◌-◌, ◌*◌, ◌%◌
 use Rattle.std.specs.Prelude.{find, slice_get, IfSome, OnErr}
 use Rattle.std.proofs.lemmas.Bool.{cases_lt}
 use Rattle.std.proofs.lemmas.List.{append-nil}
-use Rattle.std.proofs.lemmas.Option.{same_Some, slice_get_past}
+use Rattle.std.proofs.lemmas.Option.{slice_get_past}
 use Rattle.cc_base.specs.declared.span.Span.{Span}
 use Rattle.rv_decode.specs.declared.ins.Ins.{Ins}
 use Rattle.rv_decode.specs.declared.ins.Ins.TheVariants as ins
@@ -17,7 +17,7 @@ use Rattle.plain_machine.specs.Machine.{State, Setting}
 use Rattle.plain_machine.specs.Events.{events}
 use Rattle.fragment.specs.declared.Exit.{Exit}
 use Rattle.fragment.specs.Parts.{Parts}
-use Rattle.fragment.specs.Build.{IsFresh, last}
+use Rattle.fragment.specs.Build.{last}
 use Rattle.fragment.specs.Exits.{exits_at}
 use Rattle.fragment.proofs.Values.{own_size}
 use Rattle.report.specs.Rows.{Rows}
@@ -31,7 +31,7 @@ use Rattle.block_ledger.specs.Requests.{Asking}
 use Rattle.block_ledger.specs.Traced.{Scheme, Trace, range_of, direct, is_direct}
 use Rattle.guest_proc.specs.Begun.{BlockBegins}
 use Rattle.guest_proc.specs.Fresh.{AreFresh, AreMapped, block_in}
-use Rattle.guest_proc.specs.Process.{Process, Went, trace, process}
+use Rattle.guest_proc.specs.Process.{Went, trace, process}
 use Rattle.guest_proc.proofs.Put.{found-at}
 use Rattle.guest_proc.proofs.Kept.{fresh-same, fresh-left, fresh-stored, mapped-same, mapped-stored, mapped-segments, segments-left}
 use Rattle.guest_proc.proofs.Marks.{block-traced, leaving}

@@ -1,10 +1,8 @@
 -- A run behind a system call.
-use Rattle.std.proofs.Common.{◌≡◌, ℕ, ◌%◌, ◌<◌, Bool, List, [], ◌++◌, Option, Some, None, refl, sym, ◌∙◌, ap, subst}
-use Rattle.cc_base.specs.declared.span.Span.{Span}
+use Rattle.std.proofs.Common.{◌≡◌, ℕ, ◌%◌, ◌<◌, List, [], ◌++◌, Option, Some, None, refl, sym, ◌∙◌, ap, subst}
 use Rattle.rv_decode.specs.declared.ins.Isa.{Isa}
 use Rattle.probe_tools.specs.declared.tool.Tool.{Tool}
 use Rattle.plain_machine.specs.declared.cpu.Cpu.{Cpu}
-use Rattle.plain_machine.specs.declared.ends.End.{End}
 use Rattle.plain_machine.specs.declared.ends.End.TheVariants as ends
 use Rattle.plain_machine.specs.declared.ends.Kind.TheVariants as kinds
 use Rattle.plain_machine.specs.declared.io.Asked.{Asked}
@@ -12,19 +10,18 @@ use Rattle.plain_machine.specs.declared.io.Asked.TheVariants as asked
 use Rattle.plain_machine.specs.Memory.{Memory, IsMemory}
 use Rattle.plain_machine.specs.Io.{Io}
 use Rattle.plain_machine.specs.Calls.{Reply, called}
-use Rattle.plain_machine.specs.Machine.{State, Setting, Transition, To, Final, Stuck, Maps, Unmaps, Replaces, Goes, Ends, Action, replied, call, transition_by}
-use Rattle.plain_machine.specs.Run.{Run, run_behind, stuck, ended}
+use Rattle.plain_machine.specs.Machine.{State, Setting, Transition, To, Final, Stuck, Maps, Unmaps, Replaces, Action, replied, transition_by}
+use Rattle.plain_machine.specs.Run.{run_behind}
 use Rattle.plain_machine.specs.Cut.{Marked, marked, with_marks, over}
 use Rattle.report.specs.Rows.{Rows}
-use Rattle.engine.specs.Standing.{SameCode, IsStored, state}
+use Rattle.engine.specs.Standing.{state}
 use Rattle.block_ledger.specs.Ledger.{Ledger, written}
 use Rattle.block_ledger.specs.Requests.{Asking}
-use Rattle.block_ledger.specs.Traced.{Scheme, Trace, after_call, on_ledger, range_of}
+use Rattle.block_ledger.specs.Traced.{Scheme, Trace, after_call, range_of}
 use Rattle.region_laws.specs.Heap.{HeapIsData}
 use Rattle.region_laws.specs.Calls.{CallLeaves, Leaves, CodeBehind, AsksWell, OutputBehind}
 use Rattle.region_laws.proofs.Replies.{calls-leave}
 use Rattle.guest_proc.specs.declared.stop.Stop.{Stop}
-use Rattle.guest_proc.specs.declared.stop.Stop.TheVariants as stop
 use Rattle.guest_proc.specs.Fresh.{AreFresh, AreMapped}
 use Rattle.guest_proc.specs.Kept.{StopsWell}
 use Rattle.guest_proc.specs.Called.{CallDone, stop_for, told}

@@ -12,22 +12,20 @@ use Rattle.cc_base.specs.declared.span.Span.{Span}
 use Rattle.probe_tools.specs.declared.tool.Tool.{Tool}
 use Rattle.plain_machine.specs.declared.access.Access.{Access}
 use Rattle.plain_machine.specs.declared.cpu.Cpu.{Cpu}
-use Rattle.plain_machine.specs.declared.cpu.Done.{Done}
 use Rattle.plain_machine.specs.declared.cpu.Done.TheVariants as done
 use Rattle.plain_machine.specs.declared.effect.Effect.{Effect}
 use Rattle.plain_machine.specs.declared.effect.Effect.TheVariants as effects
-use Rattle.plain_machine.specs.Memory.{Memory, fetched, stored, size_of}
-use Rattle.plain_machine.specs.Step.{Outcome, step, performed, effect_of, store}
+use Rattle.plain_machine.specs.Memory.{Memory, stored, size_of}
+use Rattle.plain_machine.specs.Step.{Outcome, performed, effect_of, store}
 use Rattle.plain_machine.specs.Calls.{called}
 use Rattle.plain_machine.specs.Machine.{State, Setting}
 use Rattle.plain_machine.specs.Cut.{ends_block}
-use Rattle.fragment.specs.declared.Exit.{Exit}
 use Rattle.fragment.specs.Parts.{Parts}
 use Rattle.fragment.specs.Build.{IsBuilt, last}
 use Rattle.fragment.specs.Exits.{exits_at, exits_of}
 use Rattle.engine.specs.declared.block.Left.{Left}
 use Rattle.engine.specs.declared.block.Left.TheVariants as left
-use Rattle.engine.specs.Words.{DoesWords, state_at, state_after, outcome_in, done_at, word_of, is_first, marks_before, last_exit, left_by as left_how}
+use Rattle.engine.specs.Words.{DoesWords, state_at, outcome_in, done_at, word_of, is_first, marks_before, last_exit, left_by as left_how}
 use Rattle.engine.proofs.Path.{state-first, state-more, marks-none, marks-more}
 use Rattle.engine.proofs.Steps.{goes-on, GoesOn}
 use Rattle.engine.proofs.Stored.{isa-kept}

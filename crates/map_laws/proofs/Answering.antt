@@ -7,7 +7,6 @@ use Rattle.std.proofs.lemmas.List.Concat.{flat_map-append}
 use Rattle.cc_base.specs.Image.{Code}
 use Rattle.rv_decode.specs.declared.ins.Isa.{Isa}
 use Rattle.plain_machine.specs.declared.access.MemErr.{MemErr}
-use Rattle.plain_machine.specs.declared.io.Asked.TheVariants as asked
 use Rattle.plain_machine.specs.Memory.{Memory}
 use Rattle.plain_machine.specs.Calls.{is_module, minus}
 use Rattle.plain_machine.specs.Program.{Program, placed}

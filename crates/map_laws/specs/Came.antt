@@ -1,5 +1,5 @@
 -- A process that was run and answered, in one setting.
-use Rattle.std.specs.Prelude.{◌≡◌, ℕ, Bool, List, [], ◌++◌, drop, length}
+use Rattle.std.specs.Prelude.{◌≡◌, ℕ, Bool, List, ◌++◌, drop, length}
 use Rattle.cc_base.specs.Image.{Code}
 use Rattle.rv_decode.specs.declared.ins.Isa.{Isa}
 use Rattle.plain_machine.specs.declared.io.Asked.{Asked}
