@@ -1,7 +1,7 @@
 -- A registry that is called by one alone.
-use Rattle.std.proofs.Common.{◌≡◌, ℕ, zero, suc, ◌+◌, ◌<◌, ◌≤◌, ◌&&◌, ◌==◌, Bool, true, false, nat_lt, List, [], ◌∷◌, ◌++◌, length, slice_get, Option, Some, None, refl, sym, ap, ◌∙◌, subst, arith, count_by, eqb-true, le-ltb, lt-ltb}
+use Rattle.std.proofs.Common.{◌≡◌, ℕ, zero, suc, ◌<◌, true, nat_lt, List, [], ◌∷◌, ◌++◌, length, slice_get, Option, Some, refl, sym, ap, ◌∙◌, subst, arith, eqb-true, le-ltb, lt-ltb}
 use Rattle.std.specs.Prelude.{is_some, slice_index_or, IfSome}
-use Rattle.std.specs.List.{All, Contains}
+use Rattle.std.specs.List.{All}
 use Rattle.std.proofs.lemmas.Bool.{and_parts}
 use Rattle.std.proofs.lemmas.Bool.Decides.{nat_tests}
 use Rattle.std.proofs.lemmas.List.{length-set}
@@ -14,10 +14,10 @@ use Rattle.registry.specs.declared.entry.Replaced.TheVariants.{Yes, NoSuchModule
 use Rattle.registry.specs.Content.{Content}
 use Rattle.registry.specs.Opening.{Opening}
 use Rattle.registry.specs.State.{State}
-use Rattle.registry.specs.Registry.{Told, AreReplied, after, after_all, files_after, generation_of, no_unit, opened, reg, replace_reply, replaced_by, told, told_all, unit_for}
+use Rattle.registry.specs.Registry.{Told, AreReplied, after, after_all, files_after, generation_of, opened, reg, replace_reply, replaced_by, told, told_all, unit_for}
 use Rattle.registry.specs.History.{Adds, History, IsCounted, IsHeld, is_attach, is_detach, state_of}
 use Rattle.registry.specs.Laws.{AttachesGoOn, GoesOn, HoldsItsOwn}
-use Rattle.registrar.specs.Calls.{AreFreshOf, Holder, HoldsOwn, IsMapped, handing, holder_of, made, plain}
+use Rattle.registrar.specs.Calls.{AreFreshOf, Holder, HoldsOwn, IsMapped, handing, holder_of, made}
 use Rattle.registrar.proofs.Counts.{count-told}
 
 -- ---- one entry more

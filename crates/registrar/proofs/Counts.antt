@@ -1,18 +1,16 @@
 -- Counts of own entries.
-use Rattle.std.proofs.Common.{◌≡◌, ℕ, ◌+◌, ◌<◌, ◌≤◌, ◌&&◌, ◌==◌, cond, Bool, true, false, List, [], ◌∷◌, ◌++◌, refl, ap, ◌∙◌, arith, count_by, eq-eqb, inl, inr}
+use Rattle.std.proofs.Common.{◌≡◌, ℕ, ◌+◌, ◌≤◌, ◌&&◌, ◌==◌, cond, Bool, true, false, List, [], ◌∷◌, ◌++◌, refl, sym, ap, ◌∙◌, subst, arith, count_by, eq-eqb, eqb-true}
 use Rattle.std.proofs.lemmas.List.Sums.{sum_by-append}
 use Rattle.std.proofs.lemmas.List.Elements.{Contains-append_left, Contains-append_right}
-use Rattle.std.proofs.lemmas.Bool.{cases_Bool}
-use Rattle.fragment.specs.Parts.{Parts}
+use Rattle.std.proofs.lemmas.Bool.{and_parts}
 use Rattle.registry.specs.declared.entry.Entry.{Entry}
-use Rattle.registry.specs.declared.entry.Entry.TheVariants.{Map, Replace, Attach, Merge, Detach, Due, Acked, Failed, Finish}
-use Rattle.registry.specs.Content.{Content}
+use Rattle.registry.specs.declared.entry.Entry.TheVariants.{Attach, Detach}
 use Rattle.registry.specs.Opening.{Opening}
 use Rattle.registry.specs.State.{State}
 use Rattle.registry.specs.Registry.{Told, after, opened, told, told_all}
 use Rattle.registry.specs.History.{is_attach, is_detach}
-use Rattle.registrar.specs.Calls.{AreCovered, AreFreshOf, HoldsOwn, attaches, detaches, handing}
-use Rattle.registrar.specs.Laws.{AttachedIsFresh, AttachedIsHeld, CoveredStays, FreshStays, HeldStays, RegistryIsCovered}
+use Rattle.registrar.specs.Calls.{AreCovered, HoldsOwn, attaches, detaches, handing, plain}
+use Rattle.registrar.specs.Laws.{AttachedIsFresh, AttachedIsHeld, CoveredLetGo, CoveredStays, FreshStays, HeldStays, RegistryIsCovered}
 
 abbrev one : Bool → ℕ
 one b = cond b 1 0
@@ -29,18 +27,6 @@ count-told p o s [] = refl
 count-told p o s (e ∷ es) =
     let front = count-cons (λ (t : Told). p t.entry) (told o s e) (told_all o (after o s e) es) in
     omega (arith, front, count-cons p e es, count-told p o (after o s e) es)
-
--- an entry is not both
-not_both : (slot age : ℕ) (e : Entry) → is_attach slot age e ≡ true → is_detach slot age e ≡ false
-not_both slot age (Map guest k file) is = refl
-not_both slot age (Replace guest k file reply) is = refl
-not_both slot age (Attach guest s file a version) is = refl
-not_both slot age (Merge guest s a addrs reply) is = refl
-not_both slot age (Detach guest s a) is = absurd (cc)
-not_both slot age (Due s a version) is = refl
-not_both slot age (Acked s a version) is = refl
-not_both slot age (Failed s) is = refl
-not_both slot age Finish is = refl
 
 module _ (own : List Told) (t : Told) (slot age : ℕ) where
   more_attaches : attaches slot age (own ++ t ∷ []) ≡ attaches slot age own + one (is_attach slot age t.entry)
@@ -68,13 +54,22 @@ held-stays own t slot age other held = omega (arith, held, more_attaches own t s
 pub fresh-stays : FreshStays
 fresh-stays own more slot age added f = record { told = f.told; there = Contains-append_left own more f.told f.there; attached = f.attached; fresh = f.fresh }
 
-covered_by : (own : List Told) (t : Told) (slot age : ℕ) (b : Bool) → is_detach slot age t.entry ≡ b → AreCovered own → (b ≡ true → HoldsOwn slot age own)
-    → detaches slot age (own ++ t ∷ []) ≤ attaches slot age (own ++ t ∷ [])
-covered_by own t slot age true is covered held = omega (arith, held refl, more_attaches own t slot age, more_detaches own t slot age, ap one is)
-covered_by own t slot age false is covered held = omega (arith, covered slot age, more_attaches own t slot age, more_detaches own t slot age, ap one is)
-
 pub covered-stays : CoveredStays
-covered-stays own t covered held slot age = covered_by own t slot age (is_detach slot age t.entry) refl covered (held slot age)
+covered-stays own t other covered slot age =
+    omega (arith, covered slot age, more_attaches own t slot age, more_detaches own t slot age, ap one (other slot age))
+
+let_go_by : (own : List Told) (t : Told) (s a slot age : ℕ) (b : Bool) → is_detach s a t.entry ≡ b → (b ≡ true → (s ≡ slot) × (a ≡ age)) → HoldsOwn slot age own → AreCovered own
+    → detaches s a (own ++ t ∷ []) ≤ attaches s a (own ++ t ∷ [])
+let_go_by own t s a slot age true is same held covered =
+    let e = same refl in
+    let here = subst (λ n. HoldsOwn n a own) (sym e.0) (subst (λ n. HoldsOwn slot n own) (sym e.1) held) in
+    omega (arith, here, more_attaches own t s a, more_detaches own t s a, ap one is)
+let_go_by own t s a slot age false is same held covered = omega (arith, covered s a, more_attaches own t s a, more_detaches own t s a, ap one is)
+
+pub covered-let-go : CoveredLetGo
+covered-let-go own guest slot age held covered s a =
+    let_go_by own (plain (Detach guest slot age)) s a slot age ((slot == s) && (age == a)) refl
+    (λ is. let parts = and_parts _ _ is in (sym (eqb-true slot s parts.0), sym (eqb-true age a parts.1))) held covered
 
 pub registry-is-covered : RegistryIsCovered
 registry-is-covered h counted slot age =

@@ -63,6 +63,6 @@ pub record IsMapped (o : Opening) (k : ℕ) (file : Option ℕ) : Type 0 where
   pub there : IfSome file (λ f. f < length o.codes)
 
 -- a number of addresses that is told as too great is
-abbrev pub IsMerged : Merged → Type 0
-IsMerged (Version version) = Unit {0}
-IsMerged (UnitFull count) = most_addrs < count
+abbrev pub IsOver : Merged → Type 0
+IsOver (Version version) = Unit {0}
+IsOver (UnitFull count) = most_addrs < count

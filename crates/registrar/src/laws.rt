@@ -1,5 +1,5 @@
 //! What a holder keeps of its own entries, as contracts.
-ghost use Rattle.registrar.specs.Laws.{AttachedIsFresh, AttachedIsHeld, CoveredStays, FreshStays, HeldStays, RegistryIsCovered};
+ghost use Rattle.registrar.specs.Laws.{AttachedIsFresh, AttachedIsHeld, CoveredLetGo, CoveredStays, FreshStays, HeldStays, RegistryIsCovered};
 
 /// Where no generation was let go more often than it was attached, the one that is attached now is held; and what is
 /// built in the image of the unit that was handed out may be handed in for it.
@@ -13,14 +13,15 @@ pub fn held_stays()
     ensures { HeldStays }
 {}
 
-/// What may be handed in for a generation that is held may be handed in until it is let go.
+/// What is built in the image of a unit that was handed out is so behind further entries.
 pub fn fresh_stays()
     ensures { FreshStays }
 {}
 
 /// No generation is let go more often than it was attached, as long as only what is held is let go.
 pub fn covered_stays()
-    ensures { CoveredStays }
+    ensures others { CoveredStays }
+    ensures detached { CoveredLetGo }
 {}
 
 /// In a registry no generation was let go more often than it was attached.

@@ -8,7 +8,7 @@ ghost use Rattle.registry.specs.Content.{content_of};
 ghost use Rattle.registry.specs.Opening.{image_at, slot_at};
 ghost use Rattle.registry.specs.Registry.{replaced_by};
 ghost use Rattle.registry.specs.History.{MayAttach};
-ghost use Rattle.registrar.specs.Calls.{Holder, HoldsOwn, AreFreshOf, IsMapped, IsMerged, made, plain, handing};
+ghost use Rattle.registrar.specs.Calls.{Holder, HoldsOwn, AreFreshOf, IsMapped, IsOver, made, plain, handing};
 
 use fragment::Fragment;
 use registry::{Attached, Merged, Replaced};
@@ -54,7 +54,7 @@ pub trait Registrar {
         requires rises { IsRising (addresses added.now) }
         requires few { length added.now ≤ 16384 }
         ensures ok { IfOk result (λ reply. holder self.new ≡ made (plain (Merge guest slot age (addresses added.now) reply)) (holder self.old)) }
-        ensures full { IfOk result IsMerged }
+        ensures full { IfOk result IsOver }
         ensures err { OnErr result (holder self.new ≡ holder self.old) };
 
     /// The guest lets a generation go that the holder holds. It takes no memory.

@@ -1,4 +1,4 @@
-use Rattle.std.proofs.Common.{refl, subst}
+use Rattle.std.proofs.Common.{refl}
 use Rattle.unit_set.specs.Held.{addresses}
 use Rattle.registry.specs.declared.entry.Entry.TheVariants.{Merge}
 use Rattle.registry.specs.Registry.{no_unit}
