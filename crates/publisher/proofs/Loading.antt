@@ -158,7 +158,11 @@ are_more n l x are = record {
 }
 
 same_load : (a b : Load) → a.loaded ≡ b.loaded → a.found ≡ b.found → a.shut ≡ b.shut → a.standing ≡ b.standing → a ≡ b
-same_load a b loaded found shut standing = cc
+same_load a b loaded found shut standing =
+    ap (λ x. let l : Load = record { loaded = x; found = a.found; shut = a.shut; standing = a.standing } in l) loaded
+    ∙ (ap (λ x. let l : Load = record { loaded = b.loaded; found = x; shut = a.shut; standing = a.standing } in l) found
+    ∙ (ap (λ x. let l : Load = record { loaded = b.loaded; found = b.found; shut = x; standing = a.standing } in l) shut
+    ∙ ap (λ x. let l : Load = record { loaded = b.loaded; found = b.found; shut = b.shut; standing = x } in l) standing))
 
 load_left : (n : ℕ) (l : Loads) (x : Load) (k : ℕ) → AreOf n l → k < n → load_at (with_load l x) k ≡ load_at l k
 load_left n l x k are within =
