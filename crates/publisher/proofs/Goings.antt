@@ -1,15 +1,15 @@
 -- One publication more, for all slots.
-use Rattle.std.proofs.Common.{◌≡◌, ◌≢◌, ◌⊎◌, inl, inr, ⊎_elim, ℕ, suc, ◌+◌, ◌<◌, ◌≤◌, ◌==◌, cond, Bool, true, false, List, [], ◌∷◌, ◌++◌, length, set, get_or, map, zero, refl, sym, ap, ◌∙◌, subst, arith, Option, Some, None, Result, Ok, Err, OnOk, OnErr, IfOk, Contains, append_assoc, ne_eqb}
+use Rattle.std.proofs.Common.{◌≡◌, ◌≢◌, inl, inr, ⊎_elim, ℕ, suc, ◌+◌, ◌<◌, ◌≤◌, cond, Bool, true, false, List, [], ◌∷◌, ◌++◌, length, set, zero, refl, sym, ap, ◌∙◌, subst, arith, Option, Some, None, Result, Ok, Err, OnOk, OnErr, IfOk, Contains, ne_eqb}
 use Rattle.std.specs.List.{AllByRecursion}
-use Rattle.std.proofs.lemmas.List.{length-set, map-set, set-get_or, get_or-set_other}
+use Rattle.std.proofs.lemmas.List.{length-set, set-get_or, get_or-set_other}
 use Rattle.std.proofs.lemmas.Bool.{cases_lt}
 use mathlib.Core.Logic.{dite}
 use native.Mathlib.Decide.{ℕ_discrete}
 use Rattle.shelf_model.specs.Faults.{Rose}
 use Rattle.shelf_model.specs.declared.shelf.Area.{Area}
 use Rattle.shelf_model.specs.declared.shelf.Area.TheVariants.{A, B}
-use Rattle.shelf_model.specs.Shelf.{Told, Images, Passes, TellsOthers}
-use Rattle.unit_set.specs.Slot.{Slot, slot_text}
+use Rattle.shelf_model.specs.Shelf.{Told, Images, TellsOthers}
+use Rattle.unit_set.specs.Slot.{slot_text}
 use Rattle.unit_set.specs.Held as units
 use Rattle.publish.specs.declared.area.Standing.{Standing}
 use Rattle.publish.specs.declared.gates.PubErr.{PubErr}
@@ -26,16 +26,15 @@ use Rattle.registry.specs.declared.entry.Entry.{Entry}
 use Rattle.registry.specs.declared.entry.Entry.TheVariants.{Due, Acked, Failed}
 use Rattle.registry.specs.Content.{content_of}
 use Rattle.registry.specs.Opening.{Opening, slot_at}
-use Rattle.registry.specs.State.{State, SlotState, with_at, due_slot}
-use Rattle.registry.specs.Registry.{after_all, slot_of, unit_for, AreReplied}
+use Rattle.registry.specs.State.{State, SlotState, with_at}
+use Rattle.registry.specs.Registry.{after_all, slot_of, unit_for}
 use Rattle.registry.specs.History.{History, Adds, state_of}
-use Rattle.registry.proofs.Lists.{set_is}
 use Rattle.publisher.specs.Loads.{NoneFalls, blank}
-use Rattle.publisher.specs.Serving.{AreCaused, AreDistinct, AreTheirs, Answers, IsCaused, Publishes, added, dues, last_seq, seq_at, seqs_after, seqs_all, seqs_of, standing_at}
-use Rattle.publisher.specs.Folder.{HoldsBehind, HoldsNow, IsApart, IsSound, KeepsOthers, Survives, acks, is_acked}
-use Rattle.publisher.specs.Leg.{IsServed, IsStill, Serves, Tells, Wrote, answer_to}
+use Rattle.publisher.specs.Serving.{AreDistinct, Answers, IsCaused, dues, last_seq, seq_at, seqs_after, seqs_all, seqs_of, standing_at}
+use Rattle.publisher.specs.Folder.{HoldsBehind, IsApart, IsSound, KeepsOthers, Survives, acks}
+use Rattle.publisher.specs.Leg.{IsServed, Tells, Wrote, answer_to}
 use Rattle.publisher.specs.Going.{Ends, Going, Lasts, Slotted}
-use Rattle.publisher.proofs.Entries.{Pair, acks-append, added_is, all-append, all_left, all_right, all_wider, answer_theirs, due_open, grew, journal_both, journal_none, pair_fewer, pair_journal, pair_other, pair_replied, pair_shut, publishes-snoc, replied_both, same_opening, seqs-append, state_more}
+use Rattle.publisher.proofs.Entries.{Pair, added_is, all-append, all_left, all_right, all_wider, answer_theirs, due_open, grew, journal_both, journal_none, pair_fewer, pair_journal, pair_other, pair_replied, pair_shut, publishes-snoc, replied_both, same_opening, seqs-append, state_more}
 use Rattle.publisher.proofs.Slots.{Keeps, Publishing, behind_seq, fit_seq, fits_kept, folder_kept, keeps_other, keeps_still, lasts_acked, lasts_kept, folder_of, publishing, survives_broke, survives_kept}
 
 -- ---- standings

@@ -11,7 +11,6 @@ use Rattle.registry.specs.Content.{Content}
 use Rattle.registry.specs.Opening.{Opening}
 use Rattle.registry.specs.State.{State, SlotState, with_at}
 use Rattle.registry.specs.Registry.{after, after_all, opened, slot_in, slot_of, slots_opened}
-use Rattle.registry.specs.History.{IsOpening}
 use Rattle.registry.proofs.Keeps.{found_length}
 use Rattle.publisher.specs.declared.loads.Load.{Load}
 use Rattle.publisher.specs.Loads.{IsLoaded, Loads, load_at, name_at}

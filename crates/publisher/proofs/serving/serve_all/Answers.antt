@@ -1,5 +1,4 @@
-use Rattle.std.proofs.Common.{◌≡◌, ℕ, ◌+◌, ◌<◌, ◌≤◌, length, subst, sym, ap, ◌∙◌, arith, List}
-use Rattle.std.specs.Arc.{arc_value}
+use Rattle.std.proofs.Common.{subst, sym, ap, ◌∙◌, arith, List}
 use Rattle.unit_set.specs.Held.{Held}
 use Rattle.publish.specs.declared.outcome.Pub.{Pub}
 use Rattle.registry.specs.declared.registry.Due.{Due as Answer}
