@@ -382,7 +382,7 @@ stopped_ends old now mid st0 st1 st2 told0 told1 told2 t0 t1 t2 i1 i2 f0 f1 f2 s
     let behind = state_more old now g.more g.journal in
     let opened = (due_open (state_of now) slot age version adds.replied).1 in
     let here : (k : ℕ) → k < length o.slots → (slot_of (state_of old) k).shut ≡ false
-        → ForBoth told0 (slot_at o k) (λ a b. Survives i2 t0 t2 o (state_of old) k (g.more ++ leg) (held (slot_at o k) a b)) =
+    → ForBoth told0 (slot_at o k) (λ a b. Survives i2 t0 t2 o (state_of old) k (g.more ++ leg) (held (slot_at o k) a b)) =
     λ k within was. dite (ℕ_discrete k slot)
     (λ (same : k ≡ slot).
     let at : ForBoth told0 (slot_at o slot) (λ a b. Survives i2 t0 t2 o (state_of old) slot (g.more ++ leg) (held (slot_at o slot) a b)) =

@@ -13,8 +13,8 @@ ghost use Rattle.publisher.specs.Folder.{HoldsBehind, HoldsNow, IsSound, KeepsOt
 ghost use Rattle.publisher.specs.Leg.{Serves, Tells, Wrote, answer_to};
 ghost use Rattle.publisher.specs.Going.{Ends, Whole};
 
-use registry::laws::dues_may_be_answered;
 use publish::{Pub, PubErr, PubFault, Standing, publish};
+use registry::laws::dues_may_be_answered;
 use registry::{Due, Registry};
 use shelf_model::Shelf;
 use std::alloc::{AllocError, Global};
@@ -132,9 +132,7 @@ fn serve_all<H: Shelf>(
             return Ok(served);
         };
         let order = Order { slot, age, version };
-        served.push(publish_due(
-            alloc, registry, shelf, standings, order, &unit,
-        )?)?;
+        served.push(publish_due(alloc, registry, shelf, standings, order, &unit)?)?;
     }
     Ok(served)
 }

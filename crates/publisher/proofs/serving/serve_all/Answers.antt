@@ -58,8 +58,8 @@ loop-preserved g c =
     c.in_ok-publish_due.field-0 c.requires.names c.loop.invariant.0 d.0 n.0 (ap (λ (u : Held). u.slot) c.deref.ensures ∙ n.1) (ap (λ (u : Held). content_of u) c.deref.ensures ∙ d.1) c.in_ok-publish_due.ensures.within
     c.in_ok-publish_due.ensures.wrote c.in_ok-publish_due.ensures.ok in (
       subst (λ (v : List Pub). Going c.args.registry.now c.publish_due.new.registry c.args.standings.now c.publish_due.new.standings (shelf.told c.args.shelf.now) (shelf.told c.publish_due.new.shelf)
-      (shelf.moment c.args.shelf.now) (shelf.moment c.publish_due.new.shelf) (shelf.images c.publish_due.new.shelf) (shelf.faults c.args.shelf.now) (shelf.faults c.publish_due.new.shelf) v)
-      (sym c.in_ok-push.ensures.items) next.0,
+          (shelf.moment c.args.shelf.now) (shelf.moment c.publish_due.new.shelf) (shelf.images c.publish_due.new.shelf) (shelf.faults c.args.shelf.now) (shelf.faults c.publish_due.new.shelf) v)
+          (sym c.in_ok-push.ensures.items) next.0,
       omega (arith, next.1, c.loop.invariant.1),
     )
 
