@@ -1,9 +1,6 @@
-use Rattle.std.proofs.Common.{◌≡◌, List, Bool, Option, length, map, option_map, sym, ap, subst, ◌∙◌, arith}
+use Rattle.std.proofs.Common.{List, length, sym, ap, ◌∙◌, arith}
 use Rattle.std.specs.Arc.{arc_value}
 use Rattle.unit_set.specs.Slot.{Slot}
-use Rattle.publish.specs.declared.area.Standing.{Standing}
-use Rattle.registry.specs.Content.{Content, content_of}
-use Rattle.registry.specs.Opening.{Opening}
 use Rattle.registry.specs.History.{History}
 use Rattle.publisher.specs.Loads.{Loads, contents_of}
 use Rattle.publisher.proofs.Opens.{contents_by, is_opening, open_fits}
