@@ -1,0 +1,6 @@
+pub mod Loads
+pub mod Serving
+pub mod Folder
+pub mod Leg
+pub mod Going
+pub mod Laws
