@@ -1,12 +1,12 @@
 -- Entries of one guest behind those of guests that ran before.
-use Rattle.std.proofs.Common.{◌≡◌, ℕ, ◌<◌, Bool, true, false, cond, List, [], ◌∷◌, ◌++◌, refl, sym, ap, ◌∙◌, subst, arith, Option, Some, None, eq-eqb, ne_eqb, le_refl}
+use Rattle.std.proofs.Common.{◌≡◌, ℕ, false, cond, List, [], ◌∷◌, ◌++◌, refl, sym, ap, ◌∙◌, subst, arith, Option, Some, None, eq-eqb, ne_eqb}
 use Rattle.std.proofs.lemmas.Option.{same_Some}
 use Rattle.std.specs.List.{AllByRecursion}
 use Rattle.registry.specs.declared.entry.Entry.{Entry}
 use Rattle.registry.specs.declared.entry.Entry.TheVariants.{Map, Replace, Attach, Merge, Detach, Due, Acked, Failed, Finish}
 use Rattle.registry.specs.Opening.{Opening}
 use Rattle.registry.specs.State.{State}
-use Rattle.registry.specs.Registry.{Told, after, after_all, told, told_all, AreReplied}
+use Rattle.registry.specs.Registry.{after, after_all, told, told_all, AreReplied}
 use Rattle.guest_rounds.specs.Calls.{guest_of, is_guest, own, AreOf, AreBy, IsBy}
 use Rattle.guest_rounds.specs.Rounds.{ComesBefore, MayPrecede, AreInOrder}
 use Rattle.guest_rounds.proofs.Lists.{all-append, all_weak}

@@ -1,5 +1,5 @@
 -- One guest more.
-use Rattle.std.proofs.Common.{◌≡◌, ℕ, ◌+◌, ◌<◌, ◌≤◌, ◌==◌, ◌⊎◌, inl, inr, ⊎_elim, cond, Bool, true, false, List, [], ◌∷◌, ◌++◌, length, refl, sym, ap, ◌∙◌, subst, arith, set, slice_get, Option, Some, None, eq-eqb, eqb-true, count_by}
+use Rattle.std.proofs.Common.{◌≡◌, ℕ, ◌+◌, ◌<◌, ◌≤◌, ◌==◌, ◌⊎◌, inl, inr, ⊎_elim, cond, Bool, true, false, List, [], ◌++◌, length, refl, sym, ap, ◌∙◌, subst, arith, set, slice_get, Option, Some, eq-eqb, eqb-true, count_by}
 use Rattle.std.proofs.lemmas.List.{append-nil, length-set}
 use Rattle.std.proofs.lemmas.List.Elements.{filter-append, All-get_or}
 use Rattle.std.proofs.lemmas.List.Sums.{sum_by-append}
@@ -12,8 +12,8 @@ use Rattle.registry.specs.Opening.{Opening}
 use Rattle.registry.specs.Registry.{Told, opened, reg, told_all, AreReplied}
 use Rattle.registry.specs.History.{History, state_of, is_attach, is_detach, IsCounted}
 use Rattle.registry.specs.Laws.{AreLetGo}
-use Rattle.guest_rounds.specs.Calls.{guest_of, is_guest, own, AreOf, AreBy, Calls, CallsSome, Visits}
-use Rattle.guest_rounds.specs.Rounds.{round_of, last_round, IsPast, ComesBefore, AreInOrder, AreFree, AreTold, IsThere, HasRun, HaveRun, AreCalls}
+use Rattle.guest_rounds.specs.Calls.{guest_of, is_guest, own, AreBy, Calls, CallsSome, Visits}
+use Rattle.guest_rounds.specs.Rounds.{round_of, last_round, ComesBefore, AreInOrder, AreFree, AreTold, IsThere, HasRun, HaveRun, AreCalls}
 use Rattle.guest_rounds.proofs.Lists.{set_same, set_other, present_long, present_told}
 use Rattle.guest_rounds.proofs.Orders.{told-append, replied-append, finished_by, own_all, own_others, own_past, by_weak, by_one, by-append, order-append}
 

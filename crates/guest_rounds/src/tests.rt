@@ -7,6 +7,7 @@ use std::alloc::{AllocError, Global};
 use std::test::Fail;
 
 // Guests that each ask which file the module of its own number is, and do nothing else.
+#[derive(Drop)]
 struct Askers;
 
 impl Guests for Askers {
