@@ -11,7 +11,7 @@ use registry::Registry;
 use std::alloc::{AllocError, Global};
 
 /// Runs every guest once, by rising round, and in order within a round. `rounds` has the round of each, 15 at most. It
-/// answers what is told of each, in the order of their numbers.
+/// answers what is told of each, in the order of their numbers. Where memory is wanting, some of them ran, in this order.
 pub fn run_rounds<G: Guests>(
     alloc: Global,
     registry: &mut Registry,
