@@ -288,8 +288,8 @@ candidates-offered scheme p i s some good ready own got =
     let es = fin.entries p.ledger.private in
     let in_all : AreIn es es = all_in es (fin.entries_sorted p.ledger.private) in
     let each : AllByRecursion (IsOffered s.image p.state.cpu.isa scheme.tool scheme.max) (filter (is_candidate s) es) =
-        all_filter (λ (e : ℕ × Parts). fin.find nat_cmp e.0 es ≡ Some e.1) (IsOffered s.image p.state.cpu.isa scheme.tool scheme.max) (is_candidate s)
-        (λ e is there. offered_one scheme p i s e some good ready got (own e.0 e.1 (fin.get-entries p.ledger.private e.0 ∙ there)) is) es in_all in
+    all_filter (λ (e : ℕ × Parts). fin.find nat_cmp e.0 es ≡ Some e.1) (IsOffered s.image p.state.cpu.isa scheme.tool scheme.max) (is_candidate s)
+    (λ e is there. offered_one scheme p i s e some good ready got (own e.0 e.1 (fin.get-entries p.ledger.private e.0 ∙ there)) is) es in_all in
     let all = all_take (IsOffered s.image p.state.cpu.isa scheme.tool scheme.max) (16384 - set.len s.offered) (filter (is_candidate s) es) each in
     let rise = rise_take (16384 - set.len s.offered) 0 (filter (is_candidate s) es) (rise_filter (is_candidate s) 0 es (rise_all 0 es (fin.entries_sorted p.ledger.private) (λ x same. absurd (omega (arith, same))) (inl refl))) in
     let keys = keys_of s.image p.state.cpu.isa scheme.tool scheme.max (candidates s p.ledger) all in

@@ -1,10 +1,9 @@
 -- Entries and requests behind others.
-use Rattle.std.proofs.Common.{◌≡◌, ℕ, ◌-◌, List, [], ◌∷◌, ◌++◌, refl, sym, ◌∙◌, ap}
-use Rattle.std.specs.List.{flat_map}
+use Rattle.std.proofs.Common.{◌≡◌, ℕ, ◌-◌, List, [], ◌∷◌, ◌++◌, refl, ap}
 use Rattle.std.proofs.lemmas.List.Concat.{flat_map-append}
 use Rattle.block_ledger.specs.Requests.{Asking}
 use Rattle.registry.specs.Registry.{Told}
-use Rattle.guest_script.specs.Script.{Ages, AreMade, Caller, ages_behind, last_ages}
+use Rattle.guest_script.specs.Script.{ages_behind}
 use Rattle.guest_script.specs.Told.{file_told, unit_told}
 use Rattle.guest_script.specs.Legs.{blocks_at, legs_from}
 use Rattle.guest_script.specs.Laws.{AgesGoOn, LegsGoOn, MadeGoesOn, ToldGoesOn}

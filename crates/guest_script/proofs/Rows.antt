@@ -1,8 +1,7 @@
 -- Worked rows.
-use Rattle.std.proofs.Common.{◌≡◌, ℕ, [], ◌∷◌, refl, sym, ◌∙◌, ap}
+use Rattle.std.proofs.Common.{[], ◌∷◌, refl, sym, ◌∙◌, ap}
 use Rattle.std.specs.FinMap as fin
 use Rattle.registry.specs.Registry.{AsksDetach, AsksMerge}
-use Rattle.unit_set.specs.Slot.{Slot}
 use Rattle.slot_list.specs.Slots.{slot_for}
 use Rattle.guest_script.specs.Script.{Ages, IsSlotOf}
 use Rattle.guest_script.specs.Rows.{FirstPublication, MappedLibrary, caller_of, lib_row, main_row, sixteen}
@@ -21,8 +20,10 @@ pub first-publication : FirstPublication
 first-publication = (
   (
     refl,
-    ((0, main_alone, refl),
-      ((0, main_alone, ap (λ a. AsksMerge 0 0 a (0x10000 ∷ [])) (sym (age-new fin.empty 0 0 0 refl))), ((0, main_alone, ap (AsksDetach 0 0) (sym (age-new fin.empty 0 0 0 refl))), tt))),
+    (
+      (0, main_alone, refl),
+      ((0, main_alone, ap (λ a. AsksMerge 0 0 a (0x10000 ∷ [])) (sym (age-new fin.empty 0 0 0 refl))), ((0, main_alone, ap (AsksDetach 0 0) (sym (age-new fin.empty 0 0 0 refl))), tt)),
+    ),
   ),
   refl,
   refl,
@@ -39,10 +40,19 @@ pub mapped-library : MappedLibrary
 mapped-library = (
   (
     refl,
-    ((0, main_slot, refl), (refl, ((1, lib_slot, refl), (
-      (0, main_slot, ap (AsksDetach 0 0) (sym (age-else one_attached 4 0 0 refl ∙ age-new fin.empty 0 0 0 refl))),
-      ((1, lib_slot, ap (AsksDetach 0 1) (sym (age-stays both_attached 0 4 refl ∙ age-new one_attached 4 4 0 refl))), tt),
-    )))),
+    (
+      (0, main_slot, refl),
+      (
+        refl,
+        (
+          (1, lib_slot, refl),
+          (
+            (0, main_slot, ap (AsksDetach 0 0) (sym (age-else one_attached 4 0 0 refl ∙ age-new fin.empty 0 0 0 refl))),
+            ((1, lib_slot, ap (AsksDetach 0 1) (sym (age-stays both_attached 0 4 refl ∙ age-new one_attached 4 4 0 refl))), tt),
+          ),
+        ),
+      ),
+    ),
   ),
   refl,
   refl,

@@ -1,5 +1,5 @@
 -- Worked rows.
-use Rattle.std.specs.Prelude.{◌≡◌, ℕ, List, [], ◌∷◌, Some, codes}
+use Rattle.std.specs.Prelude.{◌≡◌, List, [], ◌∷◌, Some, codes}
 use Rattle.std.specs.FinMap as fin
 use Rattle.rv_decode.specs.declared.ins.Isa.TheVariants as isa
 use Rattle.probe_tools.specs.declared.tool.Tool.TheVariants as tools

@@ -1,11 +1,10 @@
 -- A module comes.
-use Rattle.std.proofs.Common.{◌≡◌, ℕ, zero, suc, ◌+◌, ◌/◌, ◌<◌, ◌≤◌, ◌==◌, ◌||◌, Bool, true, false, List, [], ◌∷◌, ◌++◌, Option, Some, None, Ok, refl, sym, ◌∙◌, ap, subst, arith, inl, inr, append_assoc}
+use Rattle.std.proofs.Common.{◌≡◌, ℕ, zero, suc, ◌+◌, ◌/◌, ◌<◌, ◌==◌, ◌||◌, Bool, true, false, List, [], ◌∷◌, ◌++◌, Option, Some, None, Ok, refl, sym, ◌∙◌, ap, subst, arith, inl, inr, append_assoc}
 use Rattle.std.specs.Prelude.{drop, find}
 use Rattle.std.specs.List.{list_any}
 use Rattle.std.specs.Option.{option_map}
 use Rattle.std.specs.Ordering.{nat_cmp, eq_by_cmp}
 use Rattle.std.specs.FinMap as fin
-use Rattle.std.specs.FinSet as set
 use Rattle.std.proofs.lemmas.Bool.{cases_Bool}
 use Rattle.std.proofs.lemmas.Bool.Decides.{nat_tests}
 use Rattle.std.proofs.lemmas.Option.{same_Some}
@@ -17,16 +16,15 @@ use Rattle.plain_machine.specs.Memory.{Memory, IsMemory, refusal, region_from, s
 use Rattle.plain_machine.specs.Calls.{is_mapped, is_module}
 use Rattle.plain_machine.specs.Program.{Program, Segment as FileSegment, area_of, base_of, placed, with_segments}
 use Rattle.plain_machine.specs.Machine.{Setting, base_at, file_at}
-use Rattle.block_ledger.specs.Ledger.{Blocks, Ledger, Segment, attached, segment_of}
+use Rattle.block_ledger.specs.Ledger.{Segment, segment_of}
 use Rattle.block_ledger.specs.Traced.{codes_at, codes_of}
 use Rattle.block_ledger.proofs.Gets.{got-empty, tied}
 use Rattle.engine.specs.Standing.{shape}
 use Rattle.region_laws.specs.Standing.{AllStand}
 use Rattle.region_laws.proofs.Placing.{made, none-starts, tail_of}
 use Rattle.guest_proc.specs.Kept.{image_at}
-use Rattle.guest_proc.specs.Maps.{Places, placed_state, put_to}
 use Rattle.guest_proc.specs.Process.{Process}
-use Rattle.module_laws.specs.Hosted.{AreHosted, IsBare, IsOwn, ModuleStands, has_start, program_starts, starts_in}
+use Rattle.module_laws.specs.Hosted.{AreHosted, ModuleStands, has_start, program_starts, starts_in}
 use Rattle.module_laws.specs.Laws.{AttachHosts, CodesStart, EnterHosts, PlaceHosts}
 use Rattle.module_laws.proofs.Lists.{find-last, find-less, find-more, module-of, none-some, once-last, once-other, or-more}
 use Rattle.module_laws.proofs.Hosting.{image-else, image-same}

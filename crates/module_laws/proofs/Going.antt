@@ -11,7 +11,7 @@ use Rattle.cc_base.specs.Image.{Code}
 use Rattle.plain_machine.specs.declared.io.Heap.{Heap}
 use Rattle.plain_machine.specs.declared.io.Mapping.{Mapping}
 use Rattle.plain_machine.specs.Region.{Area}
-use Rattle.plain_machine.specs.Memory.{Memory, others, region_from, starts_at, without_first}
+use Rattle.plain_machine.specs.Memory.{Memory, others, region_from, starts_at}
 use Rattle.plain_machine.specs.Calls.{is_module}
 use Rattle.plain_machine.specs.Program.{Program, Segment as FileSegment, base_of, without_segments}
 use Rattle.plain_machine.specs.Machine.{Setting, base_at, file_at}
@@ -24,7 +24,7 @@ use Rattle.region_laws.proofs.Regions.{find-without}
 use Rattle.guest_proc.specs.Kept.{image_at}
 use Rattle.guest_proc.specs.Maps.{OthersStartElsewhere}
 use Rattle.guest_proc.specs.Process.{Process}
-use Rattle.module_laws.specs.Hosted.{AreHosted, IsOwn, ModuleStands, has_start, starts_in}
+use Rattle.module_laws.specs.Hosted.{AreHosted, ModuleStands, has_start, starts_in}
 use Rattle.module_laws.specs.Laws.{MappedIsPlaced, UnplaceHosts}
 use Rattle.module_laws.proofs.Lists.{find-apart, module-stays, modules-apart, not-that, once-without, or-more}
 use Rattle.module_laws.proofs.Coming.{shape-there, starts-as}
@@ -110,7 +110,7 @@ unplace-hosts w k base mapping program old new is at known gone h = subst (AreHo
   apart = λ j i a b x p q. h.apart j i a b x (module-stays j k old.state.io.mapped a (h.once k) p).1 (module-stays i k old.state.io.mapped b (h.once k) q).1;
   own = λ i code e.
       let kept = image_kept (not (i / 4 == k)) (fin.get old.ledger.segments i) code
-          (sym (ap (option_map (λ (x : Segment). x.image)) (got-kept old.ledger.segments (λ j. not (j / 4 == k)) i)) ∙ e) in
+      (sym (ap (option_map (λ (x : Segment). x.image)) (got-kept old.ledger.segments (λ j. not (j / 4 == k)) i)) ∙ e) in
       let o = h.own i code kept.1 in
       record { mapping = o.mapping; mapped = find-apart (is_module (i / 4)) (is_module k) old.state.io.mapped (modules-apart (i / 4) k (not-that (i / 4) k kept.0)) ∙ o.mapped; starts = o.starts };
 })

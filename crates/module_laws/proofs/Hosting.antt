@@ -1,24 +1,22 @@
 -- What a process keeps of its modules while it runs.
-use Rattle.std.proofs.Common.{◌≡◌, ℕ, ◌+◌, ◌/◌, ◌==◌, ◌||◌, Bool, true, false, cond, List, [], ◌∷◌, Option, Some, None, refl, sym, ◌∙◌, ap, subst, inl, inr}
+use Rattle.std.proofs.Common.{◌≡◌, ℕ, ◌+◌, ◌/◌, true, false, cond, List, [], ◌∷◌, Option, Some, None, refl, sym, ◌∙◌, ap, subst, inl, inr}
 use Rattle.std.specs.Prelude.{find}
-use Rattle.std.specs.List.{list_any}
 use Rattle.std.specs.Option.{option_map}
 use Rattle.std.specs.Ordering.{nat_cmp, eq_by_cmp}
 use Rattle.std.specs.FinMap as fin
 use Rattle.std.proofs.lemmas.Bool.{cases_Bool}
 use Rattle.cc_base.specs.Image.{Code}
-use Rattle.plain_machine.specs.declared.io.Mapping.{Mapping}
 use Rattle.plain_machine.specs.Memory.{without_first}
 use Rattle.plain_machine.specs.Calls.{is_module}
-use Rattle.plain_machine.specs.Program.{Program, Segment as FileSegment, base_of}
-use Rattle.plain_machine.specs.Machine.{Setting, with_result}
-use Rattle.block_ledger.specs.Ledger.{Ledger, Segment, candidates, flushed, offered, offered_to, with_offered}
+use Rattle.plain_machine.specs.Program.{Segment as FileSegment, base_of}
+use Rattle.plain_machine.specs.Machine.{Setting}
+use Rattle.block_ledger.specs.Ledger.{Ledger, Segment, candidates, offered_to, with_offered}
 use Rattle.block_ledger.proofs.Gets.{got-empty, got-insert, tied}
 use Rattle.region_laws.specs.Standing.{AllStand}
 use Rattle.guest_proc.specs.Kept.{Keeps, image_at}
 use Rattle.guest_proc.specs.Maps.{put_to}
 use Rattle.guest_proc.specs.Process.{Process}
-use Rattle.module_laws.specs.Hosted.{AreHosted, IsBare, IsOwn, ModuleStands, starts_in}
+use Rattle.module_laws.specs.Hosted.{AreHosted}
 use Rattle.module_laws.specs.Laws.{BareHosts, FlushKeepsImages, LedgerHosts, OfferKeepsImages, ResultHosts, RunHosts}
 use Rattle.module_laws.proofs.Lists.{none-some}
 

@@ -1,5 +1,5 @@
 -- What calls of a process do to its modules.
-use Rattle.std.specs.Prelude.{◌≡◌, ℕ, ◌+◌, ◌<◌, ◌≤◌, true, false, ◌∷◌, drop, find, Some, None}
+use Rattle.std.specs.Prelude.{◌≡◌, ℕ, ◌+◌, ◌<◌, true, false, ◌∷◌, drop, find, Some}
 use Rattle.cc_base.specs.Image.{Code}
 use Rattle.plain_machine.specs.declared.io.Mapping.{Mapping}
 use Rattle.plain_machine.specs.Memory.{IsMemory}
