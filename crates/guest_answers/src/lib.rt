@@ -1,0 +1,16 @@
+//! How a guest's stops are answered where it shares units with others: over any registrar, and any book of blocks.
+//!
+//! It stands on `guest_proc` for the guest's process, on `registrar` for its calls, on `guest_script` for which calls its
+//! requests are, and on the laws of `module_laws`. The layer above uses: each answer makes the entries of just the requests
+//! that the ledger of the run asks, puts the process to the ledger that they lead to, and keeps that each attached segment's
+//! generation is held.
+#![tactic(auto)]
+
+mod ages;
+mod desk;
+mod offer;
+mod plan;
+
+pub use ages::AgeMap;
+pub use desk::Desk;
+pub use plan::Plan;
