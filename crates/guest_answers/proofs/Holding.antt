@@ -136,8 +136,8 @@ merge-keeps plan c slot age addrs marks reply old new is = record {
 
 -- ---- a unit is let go
 
-not_in : (j i : ℕ) → has j (i ∷ []) ≡ false → i ≡ j → ⊥
-not_in j i e same = let h : (i == j) ≡ true = eq-eqb i j same in let wrong : true ≡ false = sym (ap (λ b. b || false) h) ∙ e in absurd (cc)
+pub not-in : (j i : ℕ) → has j (i ∷ []) ≡ false → i ≡ j → ⊥
+not-in j i e same = let h : (i == j) ≡ true = eq-eqb i j same in let wrong : true ≡ false = sym (ap (λ b. b || false) h) ∙ e in absurd (cc)
 
 neq_of : (a b : ℕ) → (a ≡ b → ⊥) → (a == b) ≡ false
 neq_of a b h = elim (cases_Bool (a == b)) [
@@ -157,9 +157,9 @@ detach-keeps plan c i slot age marks old new apart its held is = record {
   hosted = λ h. subst (AreHosted (setting_of plan)) (sym (ap (λ d. d.process) is)) h;
   holds = λ j e h code at.
       let one = h code (sym (ap (λ d. image_at d.process.ledger j) is) ∙ at) in
-      let other : (slot == one.slot) ≡ false = neq_of slot one.slot (λ same. not_in j i e (segment-is c i j slot apart its (subst (IsSlotOf c j) (sym same) one.its))) in
+      let other : (slot == one.slot) ≡ false = neq_of slot one.slot (λ same. not-in j i e (segment-is c i j slot apart its (subst (IsSlotOf c j) (sym same) one.its))) in
       still-holds plan c j code (plain (Detach c.guest slot age)) old new one (ap (λ b. b && (age == one.age)) other) (ap (λ d. d.own) is)
-      (ap (λ d. fin.get d.ages j) is ∙ age_else old.ages i j (not_in j i e));
+      (ap (λ d. fin.get d.ages j) is ∙ age_else old.ages i j (not-in j i e));
   covered = λ h. subst AreCovered (sym (ap (λ d. d.own) is)) (covered-let-go old.own c.guest slot age held h);
 }
 

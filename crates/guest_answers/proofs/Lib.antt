@@ -1,2 +1,3 @@
 pub mod Making
 pub mod Holding
+pub mod Attaching

@@ -7,6 +7,7 @@
 #![tactic(auto)]
 
 mod ages;
+mod attach;
 mod desk;
 mod offer;
 mod plan;

@@ -22,8 +22,8 @@ use registry::Merged;
 use slot_list::{Recipe, slot_number};
 use std::alloc::AllocError;
 
-// The number of the slot of a segment.
-fn slot_of(plan: &Plan, number: u32, recipe: Recipe) -> u32
+/// The number of the slot of a segment.
+pub fn slot_of(plan: &Plan, number: u32, recipe: Recipe) -> u32
     requires few { length plan.now.modules ≤ 32 }
     requires row { number / 4 < length plan.now.modules }
     requires seg { number % 4 < plan.now.layout.segs }
