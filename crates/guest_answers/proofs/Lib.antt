@@ -1,3 +1,5 @@
 pub mod Making
 pub mod Holding
 pub mod Attaching
+pub mod Clearing
+pub mod Walking
