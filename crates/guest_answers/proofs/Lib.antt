@@ -3,3 +3,4 @@ pub mod Holding
 pub mod Attaching
 pub mod Clearing
 pub mod Walking
+pub mod Rooming

@@ -1,3 +1,4 @@
 pub mod Plan
 pub mod Desk
 pub mod Makes
+pub mod Room

@@ -11,6 +11,7 @@ mod attach;
 mod desk;
 mod offer;
 mod plan;
+mod room;
 
 pub use ages::AgeMap;
 pub use desk::Desk;
