@@ -8,8 +8,10 @@
 
 mod ages;
 mod attach;
+
 mod desk;
 mod offer;
+mod part;
 mod plan;
 mod room;
 
