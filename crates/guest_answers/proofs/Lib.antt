@@ -4,3 +4,4 @@ pub mod Attaching
 pub mod Clearing
 pub mod Walking
 pub mod Rooming
+pub mod Answering

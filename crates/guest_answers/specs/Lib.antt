@@ -2,3 +2,4 @@ pub mod Plan
 pub mod Desk
 pub mod Makes
 pub mod Room
+pub mod Answer

@@ -7,8 +7,8 @@
 #![tactic(auto)]
 
 mod ages;
+mod answer;
 mod attach;
-
 mod desk;
 mod offer;
 mod part;
