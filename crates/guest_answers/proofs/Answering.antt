@@ -1,6 +1,5 @@
 -- A call is answered.
-use Rattle.std.proofs.Common.{◌≡◌, ℕ, ◌-◌, ◌^◌, ◌&&◌, suc, nat_lt, Bool, true, false, List, [], ◌∷◌, ◌++◌, length, map, if◌then◌else◌, refl, sym, ◌∙◌, ap, subst, inl, inr}
-use Rattle.std.specs.FinMap as fin
+use Rattle.std.proofs.Common.{◌≡◌, ℕ, ◌&&◌, suc, nat_lt, List, [], ◌∷◌, ◌++◌, length, map, if◌then◌else◌, refl, sym, ◌∙◌, ap, subst, inl, inr}
 use Rattle.std.proofs.lemmas.Bool.{cases_Bool}
 use Rattle.std.proofs.lemmas.List.{append-nil}
 use Rattle.manifest.specs.Entries.{ModuleEntry}
@@ -24,7 +23,7 @@ use Rattle.map_laws.specs.Came.{Goes}
 use Rattle.map_laws.proofs.Answering.{replace-is-answered}
 use Rattle.module_laws.proofs.Hosting.{result-hosts}
 use Rattle.guest_answers.specs.Plan.{Plan, Fits, setting_of}
-use Rattle.guest_answers.specs.Desk.{Desk, KeepsBut, desk_of}
+use Rattle.guest_answers.specs.Desk.{KeepsBut, desk_of}
 use Rattle.guest_answers.specs.Answer.{Answers, result_of}
 use Rattle.guest_answers.proofs.Holding.{still-holds}
 

@@ -1,6 +1,6 @@
 -- The executable segments of a file, at a base, and the units that are attached to them.
-use Rattle.std.proofs.Common.{◌≡◌, ◌⊎◌, ℕ, zero, suc, ◌+◌, ◌*◌, ◌/◌, ◌%◌, ◌<◌, ◌≤◌, ◌==◌, ◌&&◌, Bool, true, false, cond, List, [], ◌∷◌, ◌++◌, length, map, drop, Option, Some, None, refl, sym, ◌∙◌, ap, subst, arith, inl, inr, eq-eqb}
-use Rattle.std.specs.Prelude.{slice_get, filter, is_some, option_map, unwrap_or, find}
+use Rattle.std.proofs.Common.{◌≡◌, ℕ, zero, suc, ◌+◌, ◌/◌, ◌%◌, ◌<◌, ◌≤◌, ◌==◌, ◌&&◌, Bool, true, false, cond, List, [], ◌∷◌, ◌++◌, length, map, drop, Some, refl, sym, ◌∙◌, ap, subst, arith, inl, inr, eq-eqb}
+use Rattle.std.specs.Prelude.{slice_get, filter, option_map, unwrap_or, find}
 use Rattle.std.specs.List.{Contains}
 use Rattle.std.specs.Ordering.{nat_cmp, eq_by_cmp}
 use Rattle.std.specs.FinMap as fin
@@ -10,10 +10,8 @@ use Rattle.std.proofs.lemmas.List.{append-nil}
 use Rattle.std.proofs.lemmas.List.Elements.{Contains-append_right}
 use Rattle.std.proofs.lemmas.Option.{same_Some, slice_get-map, slice_get_within}
 use Rattle.cc_base.specs.Image.{Code, Text, start_of}
-use Rattle.rv_decode.specs.declared.ins.Isa.{Isa}
 use Rattle.manifest.specs.Entries.{ModuleEntry}
 use Rattle.plain_machine.specs.Memory.{Memory, code_at}
-use Rattle.plain_machine.specs.declared.io.Mapping.{Mapping}
 use Rattle.plain_machine.specs.Calls.{is_module}
 use Rattle.plain_machine.specs.Program.{Program, Segment, base_of, area_of}
 use Rattle.plain_machine.specs.Machine.{base_at}
@@ -26,7 +24,6 @@ use Rattle.slot_list.specs.Slots.{slot_for}
 use Rattle.block_book.specs.Clauses.{IsClear, blocks_of}
 use Rattle.block_ledger.specs.Ledger.{Blocks, Ledger, attached, segment_of}
 use Rattle.block_ledger.proofs.Gets.{got-insert, tied}
-use Rattle.block_ledger.specs.Requests.{AsksUnit, asked_at}
 use Rattle.block_ledger.specs.Traced.{Scheme, codes_at, codes_of, unit_blocks}
 use Rattle.registry.specs.Content.{Content, content_of}
 use Rattle.registry.specs.Opening.{Opening, image_at as slot_image, slot_at, text_at, no_slot, no_text, image_from}
@@ -44,8 +41,8 @@ use Rattle.module_laws.proofs.Coming.{attach-hosts, codes-start}
 use Rattle.module_laws.proofs.Hosting.{image-else, image-same}
 use Rattle.code_book.specs.Laws.{UnitsAreBuilt}
 use Rattle.guest_answers.specs.Plan.{Plan, Fits, caller_of, setting_of}
-use Rattle.guest_answers.specs.Desk.{Desk, HoldsAt, IsBuiltBy, KeepsBut, desk_of}
-use Rattle.guest_answers.specs.Makes.{AttachesOne, Makes}
+use Rattle.guest_answers.specs.Desk.{HoldsAt, IsBuiltBy, KeepsBut, desk_of}
+use Rattle.guest_answers.specs.Makes.{AttachesOne}
 use Rattle.guest_answers.proofs.Holding.{not-in, still-holds}
 
 -- ---- the codes of a program are its texts, where they stand
@@ -145,7 +142,7 @@ pub attaches-one : (scheme : Scheme) (c : Caller) (k seg f slot age version : �
     AttachesOne scheme c k seg f codes (desk_of p own ages files marks) (desk_of p2 own2 ages2 files marks2)
 attaches-one scheme c k seg f slot age version codes u p p2 own own2 ages ages2 files marks marks2 built held isa tool max its next is_own is_ages is_marks becomes =
     let blocks : unit_blocks scheme p.state.cpu.isa u.image (addresses u.frags) ≡ blocks_of u.frags =
-        ap (λ x. unit_blocks scheme x u.image (addresses u.frags)) (sym isa) ∙ built scheme u tool max held in
+    ap (λ x. unit_blocks scheme x u.image (addresses u.frags)) (sym isa) ∙ built scheme u tool max held in
     record {
       code = u.image;
       next = next;

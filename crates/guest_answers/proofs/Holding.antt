@@ -1,12 +1,12 @@
 -- What is held, behind each call.
-use Rattle.std.proofs.Common.{◌≡◌, ℕ, zero, suc, ◌+◌, ◌/◌, ◌%◌, ◌<◌, ◌==◌, ◌&&◌, ◌||◌, Bool, true, false, cond, List, [], ◌∷◌, ◌++◌, length, Option, Some, None, refl, sym, ◌∙◌, ap, subst, arith, inl, inr, eq-eqb, eqb-true}
-use Rattle.std.specs.Prelude.{slice_get, is_some, map, option_map}
+use Rattle.std.proofs.Common.{◌≡◌, ℕ, zero, suc, ◌/◌, ◌%◌, ◌<◌, ◌==◌, ◌&&◌, ◌||◌, true, false, cond, List, [], ◌∷◌, ◌++◌, length, Option, Some, None, refl, sym, ◌∙◌, ap, subst, arith, inl, inr, eq-eqb, eqb-true}
+use Rattle.std.specs.Prelude.{slice_get, is_some, option_map}
 use Rattle.std.specs.List.{All, Contains}
 use Rattle.std.specs.Ordering.{nat_cmp, eq_by_cmp}
 use Rattle.std.specs.FinMap as fin
 use Rattle.std.specs.Cmp.{nat_cmp_total}
-use Rattle.std.proofs.lemmas.Bool.{cases_Bool, and_parts}
-use Rattle.std.proofs.lemmas.Option.{same_Some, slice_get-map, slice_get_within}
+use Rattle.std.proofs.lemmas.Bool.{cases_Bool}
+use Rattle.std.proofs.lemmas.Option.{same_Some, slice_get-map}
 use Rattle.std.proofs.lemmas.List.Elements.{Contains-append_left}
 use Rattle.cc_base.specs.Image.{Code}
 use Rattle.manifest.specs.Entries.{ModuleEntry}
@@ -23,11 +23,10 @@ use Rattle.block_ledger.specs.Ledger.{Ledger, Segment, offered, segment_of}
 use Rattle.block_ledger.specs.Traced.{Scheme}
 use Rattle.block_ledger.proofs.Gets.{tied}
 use Rattle.registry.specs.Registry.{Told}
-use Rattle.registry.specs.Opening.{Opening}
 use Rattle.registry.specs.History.{is_attach, is_detach}
-use Rattle.registry.specs.declared.entry.Entry.TheVariants.{Attach, Detach, Merge}
+use Rattle.registry.specs.declared.entry.Entry.TheVariants.{Detach, Merge}
 use Rattle.registry.specs.declared.entry.Merged.{Merged}
-use Rattle.registrar.specs.Calls.{AreCovered, AreFreshOf, HoldsOwn, handing, plain}
+use Rattle.registrar.specs.Calls.{AreCovered, AreFreshOf, HoldsOwn, plain}
 use Rattle.registrar.proofs.Counts.{covered-let-go, covered-stays, held-stays}
 use Rattle.guest_script.specs.Script.{Ages, Caller, IsSlotOf}
 use Rattle.guest_proc.specs.Kept.{image_at}
@@ -35,7 +34,7 @@ use Rattle.guest_proc.specs.Maps.{put_to}
 use Rattle.guest_proc.specs.Process.{Process}
 use Rattle.module_laws.specs.Hosted.{AreHosted}
 use Rattle.module_laws.proofs.Hosting.{ledger-hosts, offer-keeps-images}
-use Rattle.guest_answers.specs.Plan.{Plan, Fits, caller_of, setting_of}
+use Rattle.guest_answers.specs.Plan.{Plan, caller_of, setting_of}
 use Rattle.guest_answers.specs.Desk.{Desk, Holds, HoldsAt, IsBuiltBy, KeepsBut, MayHandIn, desk_of}
 
 -- ---- slots

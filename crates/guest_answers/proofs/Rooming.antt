@@ -22,7 +22,7 @@ use Rattle.map_laws.specs.Room.{room_made, roomy}
 use Rattle.module_laws.specs.Hosted.{AreHosted}
 use Rattle.module_laws.proofs.Hosting.{flush-keeps-images, ledger-hosts}
 use Rattle.guest_answers.specs.Plan.{Plan, setting_of}
-use Rattle.guest_answers.specs.Desk.{Desk, HoldsAt, IsKept, KeepsBut, desk_of}
+use Rattle.guest_answers.specs.Desk.{Desk, HoldsAt, IsKept, KeepsBut}
 use Rattle.guest_answers.specs.Makes.{MakesQuietly, OffersOne, PartsOne}
 use Rattle.guest_answers.specs.Room.{AreAttached, AreOnce, OffersAll, PartsAll}
 use Rattle.guest_answers.proofs.Holding.{same-holds}

@@ -1,9 +1,8 @@
 -- The units of a module's segments are attached, one after the other.
-use Rattle.std.proofs.Common.{◌≡◌, ℕ, ◌+◌, Bool, true, false, List, [], ◌∷◌, ◌++◌, length, drop, Option, Some, None, refl, sym, ◌∙◌, ap, subst, arith, inl, inr, append_assoc, zero, suc}
+use Rattle.std.proofs.Common.{◌≡◌, ℕ, ◌+◌, true, List, [], ◌∷◌, ◌++◌, length, drop, refl, sym, ◌∙◌, ap, subst, arith, inl, inr, append_assoc, zero, suc}
 use Rattle.std.proofs.lemmas.List.{append-nil}
 use Rattle.std.proofs.lemmas.Bool.{cases_Bool}
 use Rattle.std.proofs.lemmas.Bool.Decides.{nat_tests}
-use Rattle.std.specs.Prelude.{◌==◌, ◌||◌}
 use Rattle.cc_base.specs.Image.{Code}
 use Rattle.unit_set.specs.Sets.{has}
 use Rattle.block_ledger.specs.Ledger.{attached, segment_of}
@@ -69,7 +68,7 @@ attaches-next scheme c k seg f codes old now new r one =
     let unit = unit_blocks scheme now.process.state.cpu.isa one.code one.told.unit.addrs in
     let led : new.process.ledger ≡ attached (segment_of k seg) one.code unit now.process.ledger = ap (λ (q : Process). q.ledger) one.becomes in
     let led_by : new.process.ledger ≡ attached (segment_of k seg) one.code (unit_blocks scheme old.process.state.cpu.isa one.code one.told.unit.addrs) now.process.ledger =
-        led ∙ ap (λ x. attached (segment_of k seg) one.code (unit_blocks scheme x one.code one.told.unit.addrs) now.process.ledger) isa in
+    led ∙ ap (λ x. attached (segment_of k seg) one.code (unit_blocks scheme x one.code one.told.unit.addrs) now.process.ledger) isa in
     let state : new.process.state ≡ now.process.state = ap (λ (q : Process). q.state) one.becomes in
     let count : new.process.ledger.counts.blocks ≡ now.process.ledger.counts.blocks = ap (λ l. l.counts.blocks) led in
     let ask = asked_at now.process.ledger.counts.blocks (AsksUnit (segment_of k seg) f) in
@@ -105,9 +104,9 @@ pub attaches-last : (scheme : Scheme) (c : Caller) (k seg f : ℕ) (codes : List
 attaches-last scheme c k seg f codes old now full r =
     let none : drop seg codes ≡ [] = drop_all codes seg full in
     let asked : r.asked ≡ unit_asks k f 0 codes old.process.ledger.counts.blocks =
-        sym (append-nil r.asked) ∙ sym (ap (λ cs. r.asked ++ unit_asks k f seg cs now.process.ledger.counts.blocks) none) ∙ r.asks in
+    sym (append-nil r.asked) ∙ sym (ap (λ cs. r.asked ++ unit_asks k f seg cs now.process.ledger.counts.blocks) none) ∙ r.asks in
     let led : now.process.ledger ≡ all_attached scheme old.process.state.cpu.isa k 0 codes (units_told r.told) old.process.ledger =
-        sym (ap (λ cs. all_attached scheme old.process.state.cpu.isa k seg cs [] now.process.ledger) none) ∙ r.rest [] ∙ ap (λ us. all_attached scheme old.process.state.cpu.isa k 0 codes us old.process.ledger) (append-nil (units_told r.told)) in
+    sym (ap (λ cs. all_attached scheme old.process.state.cpu.isa k seg cs [] now.process.ledger) none) ∙ r.rest [] ∙ ap (λ us. all_attached scheme old.process.state.cpu.isa k 0 codes us old.process.ledger) (append-nil (units_told r.told)) in
     record {
       told = r.told;
       makes = subst (λ rs. Makes c rs r.told old now) asked r.makes;

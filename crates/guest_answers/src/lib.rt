@@ -14,7 +14,14 @@ mod offer;
 mod part;
 mod plan;
 mod room;
+#[cfg(test)]
+mod tests;
 
 pub use ages::AgeMap;
-pub use desk::Desk;
+pub use answer::replace;
+pub use attach::{attach_all, attach_one};
+pub use desk::{Desk, mark};
+pub use offer::{offer_one, part_one, slot_of};
+pub use part::{close, part_all};
 pub use plan::Plan;
+pub use room::make_room;

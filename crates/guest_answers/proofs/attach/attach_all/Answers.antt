@@ -1,4 +1,4 @@
-use Rattle.std.proofs.Common.{◌≡◌, refl, sym, ◌∙◌, ap, subst, arith, Some}
+use Rattle.std.proofs.Common.{refl, ◌∙◌, ap, arith}
 use Rattle.std.specs.Prelude.{find}
 use Rattle.plain_machine.specs.Calls.{is_module}
 use Rattle.block_ledger.specs.Ledger.{segment_of}

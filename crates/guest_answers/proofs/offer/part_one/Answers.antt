@@ -1,4 +1,4 @@
-use Rattle.std.proofs.Common.{◌≡◌, [], ◌∷◌, refl, sym, ◌∙◌, ap, subst}
+use Rattle.std.proofs.Common.{[], ◌∷◌, refl, subst}
 use Rattle.std.proofs.lemmas.Result.{on_ok_weaker}
 use Rattle.guest_proc.specs.Kept.{process_of}
 use Rattle.guest_answers.specs.Plan.{caller_of}
@@ -21,7 +21,7 @@ returns-clause-parts g c =
     let new : Desk = desk_of (process_of c.let_go.new.desk.guest.at (g.B.Book.ledger c.let_go.new.desk.guest.book)) (g.R.Registrar.holder c.let_go.new.registrar).own c.let_go.new.desk.ages c.let_go.new.desk.files.items c.let_go.new.desk.marks.items in
     on_ok_weaker c.let_go.result
     (λ makes. parts-one (caller_of c.args.plan.now c.args.desk.now.number c.args.desk.now.recipe) (caller_of c.args.plan.now c.offer_one.new.desk.number c.offer_one.new.desk.recipe) c.args.number old mid new
-        c.offer_one.ensures.caller c.in_ok-offer_one.ensures.offers makes c.let_go.ensures.process)
+    c.offer_one.ensures.caller c.in_ok-offer_one.ensures.offers makes c.let_go.ensures.process)
     c.let_go.ensures.makes
 
 pub returns-clause-kept : goal.returns-clause-kept
@@ -31,5 +31,5 @@ returns-clause-kept g c =
     let new : Desk = desk_of (process_of c.let_go.new.desk.guest.at (g.B.Book.ledger c.let_go.new.desk.guest.book)) (g.R.Registrar.holder c.let_go.new.registrar).own c.let_go.new.desk.ages c.let_go.new.desk.files.items c.let_go.new.desk.marks.items in
     on_ok_weaker c.let_go.result
     (λ kept. keeps-both c.args.plan.now (caller_of c.args.plan.now c.args.desk.now.number c.args.desk.now.recipe) (c.args.number ∷ []) old mid new c.in_ok-offer_one.ensures.kept
-        (subst (λ a. KeepsBut c.args.plan.now a (c.args.number ∷ []) mid new) c.offer_one.ensures.caller kept))
+    (subst (λ a. KeepsBut c.args.plan.now a (c.args.number ∷ []) mid new) c.offer_one.ensures.caller kept))
     c.let_go.ensures.kept

@@ -1,4 +1,4 @@
-use Rattle.std.proofs.Common.{◌≡◌, []}
+use Rattle.std.proofs.Common.{◌≡◌}
 use Rattle.guest_proc.specs.Kept.{process_of, scheme_of}
 use Rattle.guest_answers.specs.Plan.{caller_of}
 use Rattle.guest_answers.specs.Desk.{desk_of}

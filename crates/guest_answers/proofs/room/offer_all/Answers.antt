@@ -1,4 +1,4 @@
-use Rattle.std.proofs.Common.{◌≡◌, [], refl, sym, ◌∙◌, subst, arith, slice_index_or}
+use Rattle.std.proofs.Common.{refl, sym, ◌∙◌, subst, arith, slice_index_or}
 use Rattle.guest_proc.specs.Kept.{process_of, scheme_of}
 use Rattle.guest_answers.specs.Plan.{caller_of}
 use Rattle.guest_answers.specs.Desk.{HoldsAt, desk_of}
