@@ -5,3 +5,4 @@ pub mod Clearing
 pub mod Walking
 pub mod Rooming
 pub mod Answering
+pub mod Joining

@@ -3,3 +3,4 @@ pub mod Desk
 pub mod Makes
 pub mod Room
 pub mod Answer
+pub mod Laws

@@ -10,6 +10,7 @@ mod ages;
 mod answer;
 mod attach;
 mod desk;
+pub mod laws;
 mod offer;
 mod part;
 mod plan;
