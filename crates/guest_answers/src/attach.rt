@@ -91,6 +91,7 @@ pub fn attach_one<B: Book, R: Registrar>(
     units_are_built();
     let number = number_of(module, seg);
     let slot = slot_of(plan, number, desk.recipe);
+    // It tells that the segment ends at an address.
     let _: FileCode = elf.code(seg)?;
     mark(&desk.guest, &mut desk.marks)?;
     let attached = registrar.attach(desk.number, slot, file)?;

@@ -3,7 +3,7 @@
 //! It stands on `guest_proc` for the guest's process, on `registrar` for its calls, on `guest_script` for which calls its
 //! requests are, and on the laws of `module_laws`. The layer above uses: each answer makes the entries of just the requests
 //! that the ledger of the run asks, puts the process to the ledger that they lead to, and keeps that each attached segment's
-//! generation is held.
+//! generation is held; by [`laws`] this joins the run before it. Nothing stands on it yet.
 #![tactic(auto)]
 
 mod ages;
