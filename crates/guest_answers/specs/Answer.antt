@@ -1,0 +1,30 @@
+-- How the calls of a run are answered.
+use Rattle.std.specs.Prelude.{ℕ, List, ◌++◌}
+use Rattle.plain_machine.specs.declared.io.Asked.{Asked}
+use Rattle.plain_machine.specs.Calls.{minus}
+use Rattle.plain_machine.specs.Machine.{Action, Setting}
+use Rattle.block_ledger.specs.Requests.{Asking}
+use Rattle.block_ledger.specs.Traced.{Scheme}
+use Rattle.registry.specs.Registry.{Told}
+use Rattle.registry.specs.declared.entry.Replaced.{Replaced}
+use Rattle.registry.specs.declared.entry.Replaced.TheVariants.{Yes, NoSuchModule, NoSuchFile}
+use Rattle.guest_script.specs.Script.{Caller}
+use Rattle.guest_script.specs.Told.{files_told, units_told}
+use Rattle.guest_proc.specs.Process.{Process}
+use Rattle.map_laws.specs.Came.{Goes, Waits}
+use Rattle.guest_answers.specs.Desk.{Desk}
+use Rattle.guest_answers.specs.Makes.{Makes}
+
+-- Whatever came before, this call is answered by these requests and what their entries told: the run goes on from new.
+pub record Answers (w : Setting) (scheme : Scheme) (c : Caller) (old new : Desk) (a : Asked) (action : Action) : Type 0 where
+  pub asked : List Asking
+  pub told : List Told
+  pub makes : Makes c asked told old new
+  pub goes : (maps : List ℕ) (units : List (List ℕ)) (requests : List Asking) (start : Process) → Waits w scheme maps units requests start old.process a action →
+      Goes w scheme (maps ++ files_told told) (units ++ units_told told) (requests ++ asked) start new.process
+
+-- the result of a call that makes a module be another file
+abbrev pub result_of : Replaced → ℕ
+result_of Yes = 0
+result_of NoSuchModule = minus 22
+result_of NoSuchFile = minus 22

@@ -1,0 +1,6 @@
+pub mod Plan
+pub mod Desk
+pub mod Makes
+pub mod Room
+pub mod Answer
+pub mod Laws

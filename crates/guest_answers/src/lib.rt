@@ -1,0 +1,28 @@
+//! How a guest's stops are answered where it shares units with others: over any registrar, and any book of blocks.
+//!
+//! It stands on `guest_proc` for the guest's process, on `registrar` for its calls, on `guest_script` for which calls its
+//! requests are, and on the laws of `module_laws`. The layer above uses: each answer makes the entries of just the requests
+//! that the ledger of the run asks, puts the process to the ledger that they lead to, and keeps that each attached segment's
+//! generation is held; by [`laws`] this joins the run before it. Nothing stands on it yet.
+#![tactic(auto)]
+
+mod ages;
+mod answer;
+mod attach;
+mod desk;
+pub mod laws;
+mod offer;
+mod part;
+mod plan;
+mod room;
+#[cfg(test)]
+mod tests;
+
+pub use ages::AgeMap;
+pub use answer::replace;
+pub use attach::{attach_all, attach_one};
+pub use desk::{Desk, mark};
+pub use offer::{offer_one, part_one, slot_of};
+pub use part::{close, part_all};
+pub use plan::Plan;
+pub use room::make_room;
