@@ -6,3 +6,4 @@ pub mod Walking
 pub mod Rooming
 pub mod Answering
 pub mod Joining
+pub mod Unmapping
