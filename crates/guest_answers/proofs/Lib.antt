@@ -7,3 +7,4 @@ pub mod Rooming
 pub mod Answering
 pub mod Joining
 pub mod Unmapping
+pub mod Coming

@@ -49,7 +49,7 @@ fn result_of(reply: Replaced) -> u32
 }
 
 // A negative result.
-fn minus(n: u32) -> u32
+pub(crate) fn minus(n: u32) -> u32
     requires { 0 < n }
     ensures { result ≡ 2 ^ 32 - n }
 {

@@ -9,6 +9,7 @@
 mod ages;
 mod answer;
 mod attach;
+mod come;
 mod desk;
 pub mod laws;
 mod leave;
@@ -22,6 +23,7 @@ mod tests;
 pub use ages::AgeMap;
 pub use answer::replace;
 pub use attach::{attach_all, attach_one};
+pub use come::map;
 pub use desk::{Desk, mark};
 pub use leave::unmap;
 pub use offer::{offer_one, part_one, slot_of};
