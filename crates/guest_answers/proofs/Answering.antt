@@ -1,9 +1,10 @@
 -- A call is answered.
-use Rattle.std.proofs.Common.{◌≡◌, ℕ, ◌&&◌, suc, nat_lt, List, [], ◌∷◌, ◌++◌, length, map, if◌then◌else◌, refl, sym, ◌∙◌, ap, subst, inl, inr}
+use Rattle.std.proofs.Common.{◌≡◌, ℕ, ◌&&◌, suc, true, nat_lt, List, [], ◌∷◌, ◌++◌, length, map, if◌then◌else◌, refl, sym, ◌∙◌, ap, subst, inl, inr}
 use Rattle.std.proofs.lemmas.Bool.{cases_Bool}
 use Rattle.std.proofs.lemmas.List.{append-nil}
 use Rattle.manifest.specs.Entries.{ModuleEntry}
 use Rattle.plain_machine.specs.declared.io.Asked.TheVariants as asked
+use Rattle.plain_machine.specs.declared.ends.End.{End}
 use Rattle.plain_machine.specs.Calls.{minus}
 use Rattle.plain_machine.specs.Machine.{Replaces, after_replace, is_below, with_result}
 use Rattle.elf_map.specs.Program.{texts_of}
@@ -16,6 +17,8 @@ use Rattle.registry.specs.declared.entry.Replaced.{Replaced}
 use Rattle.registrar.specs.Calls.{AreCovered, plain}
 use Rattle.registrar.proofs.Counts.{covered-stays}
 use Rattle.guest_script.specs.Script.{Ages, Caller}
+use Rattle.guest_proc.specs.declared.stop.Stop.{Stop}
+use Rattle.guest_proc.specs.declared.stop.Stop.TheVariants as stop
 use Rattle.guest_proc.specs.Kept.{image_at}
 use Rattle.guest_proc.specs.Maps.{put_to}
 use Rattle.guest_proc.specs.Process.{Process}
@@ -23,8 +26,8 @@ use Rattle.map_laws.specs.Came.{Goes}
 use Rattle.map_laws.proofs.Answering.{replace-is-answered}
 use Rattle.module_laws.proofs.Hosting.{result-hosts}
 use Rattle.guest_answers.specs.Plan.{Plan, Fits, setting_of}
-use Rattle.guest_answers.specs.Desk.{KeepsBut, desk_of}
-use Rattle.guest_answers.specs.Answer.{Answers, result_of}
+use Rattle.guest_answers.specs.Desk.{Desk, IsKept, KeepsBut, desk_of}
+use Rattle.guest_answers.specs.Answer.{Answers, is_call, result_of}
 use Rattle.guest_answers.proofs.Holding.{still-holds}
 
 length_map : {A B : Type 0} (f : A → B) (xs : List A) → length (map f xs) ≡ length xs
@@ -75,3 +78,11 @@ replace-keeps plan c k f value reply p p2 own own2 ages files marks marks2 is_ow
       (h code (sym (ap (λ (q : Process). image_at q.ledger j) becomes) ∙ at)) refl is_own refl;
   covered = λ h. subst AreCovered (sym is_own) (covered-stays own (plain (Replace c.guest k f reply)) (λ s a. refl) h);
 }
+
+-- a stop at a call of modules is no end
+pub not-call : (s : Stop) (end : End) → s ≡ stop.Ended end → is_call s ≡ true → ⊥
+not-call s end is e = let wrong : is_call (stop.Ended end) ≡ true = ap is_call (sym is) ∙ e in cc
+
+-- what is kept stays
+pub keeps-all : (plan : Plan) (c : Caller) (old new : Desk) → KeepsBut plan c [] old new → IsKept plan c [] old → IsKept plan c [] new
+keeps-all plan c old new keeps kept = record { hosted = keeps.hosted kept.hosted; holds = λ j e. keeps.holds j e (kept.holds j e); covered = keeps.covered kept.covered }

@@ -17,6 +17,7 @@ mod offer;
 mod part;
 mod plan;
 mod room;
+mod stops;
 #[cfg(test)]
 mod tests;
 
@@ -30,3 +31,4 @@ pub use offer::{offer_one, part_one, slot_of};
 pub use part::{close, part_all};
 pub use plan::Plan;
 pub use room::make_room;
+pub use stops::answer_stop;
