@@ -91,7 +91,7 @@ apart-now program base k f old mid p good = placed-apart program base old.state.
 
 -- ---- it is mapped now
 
-found_last : (ms : List Mapping) (k f : ℕ) → list_any (is_module k) ms ≡ false → find (is_module k) (ms ++ record { «module» = k; file = f } ∷ []) ≡ Some (record { «module» = k; file = f })
+pub found_last : (ms : List Mapping) (k f : ℕ) → list_any (is_module k) ms ≡ false → find (is_module k) (ms ++ record { «module» = k; file = f } ∷ []) ≡ Some (record { «module» = k; file = f })
 found_last [] k f e = let self : (k == k) ≡ true = eq-eqb k k refl in rw self refl
 found_last (m ∷ ms) k f e =
     let off : is_module k m ≡ false = or_first (is_module k m) _ e in
@@ -151,7 +151,7 @@ unknown-answers plan scheme c o k value file p p2 own own2 ages files marks mark
 -- ---- its file is refused
 
 -- the file was asked for
-asks_file : (c : Caller) (k f : ℕ) (file : Option ℕ) (p q : Process) (own own2 : List Told) (ages : Ages) (files files2 marks marks2 : List ℕ) → file ≡ Some f → own2 ≡ own ++ plain (Map c.guest k file) ∷ [] → files2 ≡ files ++ f ∷ [] → marks2 ≡ marks ++ p.ledger.counts.blocks ∷ [] →
+pub asks_file : (c : Caller) (k f : ℕ) (file : Option ℕ) (p q : Process) (own own2 : List Told) (ages : Ages) (files files2 marks marks2 : List ℕ) → file ≡ Some f → own2 ≡ own ++ plain (Map c.guest k file) ∷ [] → files2 ≡ files ++ f ∷ [] → marks2 ≡ marks ++ p.ledger.counts.blocks ∷ [] →
     Makes c (asked_at p.ledger.counts.blocks (AsksFile k) ∷ []) (plain (Map c.guest k (Some f)) ∷ []) (desk_of p own ages files marks) (desk_of q own2 ages files2 marks2)
 asks_file c k f file p q own own2 ages files files2 marks marks2 some is_own is_files is_marks =
     record { own = is_own ∙ ap (λ x. own ++ plain (Map c.guest k x) ∷ []) some; made = (refl, tt); ages = refl; files = is_files; marks = is_marks }

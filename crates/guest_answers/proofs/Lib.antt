@@ -8,3 +8,4 @@ pub mod Answering
 pub mod Joining
 pub mod Unmapping
 pub mod Coming
+pub mod Starting

@@ -4,3 +4,4 @@ pub mod Makes
 pub mod Room
 pub mod Answer
 pub mod Laws
+pub mod Begin

@@ -1,9 +1,10 @@
 //! How a guest's stops are answered where it shares units with others: over any registrar, and any book of blocks.
 //!
 //! It stands on `guest_proc` for the guest's process, on `registrar` for its calls, on `guest_script` for which calls its
-//! requests are, and on the laws of `module_laws`. The layer above uses: each answer makes the entries of just the requests
-//! that the ledger of the run asks, puts the process to the ledger that they lead to, and keeps that each attached segment's
-//! generation is held; by [`laws`] this joins the run before it. Nothing stands on it yet.
+//! requests are, and on the laws of `module_laws`. The layer above uses: [`begin`], [`answer_stop`], [`make_room`] and
+//! [`close`] make the entries of just the requests that the ledger of the run asks, put the process to the ledger that they
+//! lead to, and keep that each attached segment's generation is held; an answered call joins whatever run came before it.
+//! Nothing stands on it yet.
 #![tactic(auto)]
 
 mod ages;
@@ -17,6 +18,7 @@ mod offer;
 mod part;
 mod plan;
 mod room;
+mod start;
 mod stops;
 #[cfg(test)]
 mod tests;
@@ -31,4 +33,5 @@ pub use offer::{offer_one, part_one, slot_of};
 pub use part::{close, part_all};
 pub use plan::Plan;
 pub use room::make_room;
+pub use start::begin;
 pub use stops::answer_stop;
