@@ -1,4 +1,4 @@
-use Rattle.std.proofs.Common.{true, false, [], refl, sym, ◌∙◌, ap, subst}
+use Rattle.std.proofs.Common.{true, false, [], refl, ap, subst}
 use Rattle.block_ledger.specs.Traced.{codes_of}
 use Rattle.registry.specs.declared.entry.Entry.TheVariants.{Map}
 use Rattle.registrar.specs.Calls.{Holder, plain}

@@ -1,4 +1,4 @@
-use Rattle.std.proofs.Common.{Some, [], sym, subst}
+use Rattle.std.proofs.Common.{Some, sym, subst}
 use Rattle.std.proofs.lemmas.Result.{on_ok_weaker}
 use Rattle.guest_proc.specs.Kept.{StopsWell, process_of, scheme_of}
 use Rattle.guest_answers.specs.Plan.{caller_of, setting_of}
