@@ -9,3 +9,4 @@ pub mod Joining
 pub mod Unmapping
 pub mod Coming
 pub mod Starting
+pub mod First
