@@ -269,4 +269,11 @@ impl Registry {
     {
         &self.journal
     }
+
+    /// The journal of a registry that is not needed any more. It takes no memory.
+    pub fn into_journal(self) -> Vec<Entry>
+        ensures { result.items ≡ self.journal }
+    {
+        self.journal
+    }
 }

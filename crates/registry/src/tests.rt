@@ -175,6 +175,6 @@ fn guests_share_the_units_of_their_images(rt: HostRuntime) -> Result<(), Fail> {
     let mut registry = Registry::new(alloc, opening)?;
     visit_all(alloc, &mut registry)?;
     assert_eq!(rt; publish(&mut registry)?, None);
-    assert_eq!(rt; registry.journal().len(), 11);
+    assert_eq!(rt; registry.into_journal().len(), 11);
     Ok(())
 }
