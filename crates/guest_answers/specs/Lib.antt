@@ -5,3 +5,4 @@ pub mod Room
 pub mod Answer
 pub mod Laws
 pub mod Begin
+pub mod Entries

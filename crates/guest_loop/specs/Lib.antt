@@ -1,6 +1,1 @@
-pub mod Plain
-pub mod Attach
-pub mod Room
-pub mod Hosted
-pub mod Answer
-pub mod Start
+pub mod Guest

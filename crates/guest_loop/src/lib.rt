@@ -1,19 +1,15 @@
-//! One guest, from its start to its end: a process that keeps its blocks, and the answers to its calls on modules.
+//! One guest, from its start to its end, over a registry that it is lent: a process that keeps its blocks, and the answers to
+//! its calls on modules.
 //!
-//! It stands on `guest_proc`, `code_book`, `elf_map` and the laws of `map_laws`. The layer above uses: how a guest ends, what it
-//! wrote and its report are those of its plain run, whose map answers are those that its own calls make them, and its counts
-//! are those of the ledger of that run.
+//! It stands on `guest_answers`, `guest_proc`, `code_book` and the laws of `map_laws`, over any `Registrar`. The layer above
+//! uses: [`run_guest`] tells by the guest's own entries how its plain run ends, what it wrote and its report, with the counts
+//! of the ledger of that run; and its own entries are just the calls that this ledger asks.
 #![tactic(auto)]
 
-mod answer;
-mod attach;
 mod guest;
-mod room;
 mod run;
-mod start;
-#[cfg(test)]
-mod tests;
 
-pub use guest::{Module, Ran};
+pub use guest::{GuestEnd, Ran, Taken, Work};
+pub use guest_answers::Plan;
 pub use guest_proc::{Counts, Setup};
 pub use run::run_guest;

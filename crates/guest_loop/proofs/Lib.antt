@@ -1,5 +1,0 @@
-pub mod Attaching
-pub mod Rooming
-pub mod Hosting
-pub mod Answering
-pub mod Telling
