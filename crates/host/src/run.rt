@@ -63,7 +63,7 @@ pub fn run<H: Shelf>(
         push_journal(alloc, &mut text, &names, &again, &whole.journal)?;
     }
     push_shut(alloc, &mut text, &again, &whole.loads, &whole.served)?;
-    Ok((text, told(alloc, whole)?))
+    Ok((text, lists_of(alloc, whole)?))
 }
 
 // The slots a second time.
@@ -89,7 +89,7 @@ fn names_of(alloc: Global, guests: &[GuestRow]) -> Result<Vec<Name>, AllocError>
 }
 
 // What is told of a run, of its guests how they ended.
-fn told(alloc: Global, whole: Whole) -> Result<Told, AllocError>
+fn lists_of(alloc: Global, whole: Whole) -> Result<Told, AllocError>
     ensures { IfOk result (λ t. t ≡ lists_of whole) }
 {
     let Whole {
