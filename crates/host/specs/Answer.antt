@@ -13,7 +13,7 @@ use Rattle.registry.specs.declared.entry.Entry.{Entry}
 use Rattle.publisher.specs.Loads.{name_at}
 use Rattle.journal_text.specs.Journal.{journal_lines}
 use Rattle.journal_text.specs.Shut.{first_fault, shelf_failed, shut_lines}
-use Rattle.guest_loop.specs.Guest.{GuestEnd}
+use Rattle.guest_loop.specs.Ended.{GuestEnd}
 use Rattle.whole_run.specs.Job.{Job, job_of, slots_in_job}
 use Rattle.whole_run.specs.Shelf.{Seen as ShelfSeen}
 use Rattle.whole_run.specs.Whole.{IsWhole, Whole}
