@@ -36,7 +36,7 @@ pieces_next f (x ∷ xs) (suc i) d within =
 one_more : (i : ℕ) → i + 1 ≡ suc i
 one_more i = omega arith
 
-pieces_more : {X : Type 0} (f : X → List ℕ) (xs : List X) (i : ℕ) (d : X) → i < length xs →
+pub pieces_more : {X : Type 0} (f : X → List ℕ) (xs : List X) (i : ℕ) (d : X) → i < length xs →
     flat_map f (take (i + 1) xs) ≡ flat_map f (take i xs) ++ f (get_or xs i d)
 pieces_more f xs i d within = ap (λ n. flat_map f (take n xs)) (one_more i) ∙ pieces_next f xs i d within
 

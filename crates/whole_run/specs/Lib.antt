@@ -1,3 +1,4 @@
 pub mod Job
 pub mod Shelf
 pub mod Whole
+pub mod Code
