@@ -10,3 +10,4 @@ pub mod Unmapping
 pub mod Coming
 pub mod Starting
 pub mod First
+pub mod Keeping
