@@ -41,9 +41,13 @@ use Rattle.module_laws.proofs.Coming.{attach-hosts, codes-start}
 use Rattle.module_laws.proofs.Hosting.{image-else, image-same}
 use Rattle.code_book.specs.Laws.{UnitsAreBuilt}
 use Rattle.guest_answers.specs.Plan.{Plan, Fits, caller_of, setting_of}
-use Rattle.guest_answers.specs.Desk.{HoldsAt, IsBuiltBy, KeepsBut, desk_of}
+use Rattle.guest_answers.specs.Desk.{HoldsAt, IsBuiltBy, IsEven, IsEvenAt, KeepsBut, desk_of}
 use Rattle.guest_answers.specs.Makes.{AttachesOne}
 use Rattle.guest_answers.proofs.Holding.{not-in, still-holds}
+use Rattle.guest_answers.proofs.Evening.{even-attach, self}
+use Rattle.manifest.specs.Manifest.{module_names}
+use Rattle.slot_list.specs.Laws.{AreDistinct}
+use Rattle.std.specs.Prelude.{is_some, None}
 
 -- ---- the codes of a program are its texts, where they stand
 
@@ -189,12 +193,25 @@ not_same j i e = elim (cases_Bool (eq_by_cmp nat_cmp j i)) [
   | inr other ↦ other
 ]
 
+attach_even : (c : Caller) (i slot f age version : ℕ) (code : Code) (unit : Blocks) (u : Content) (p p2 : Process) (own own2 : List Told) (ages ages2 : Ages) (files marks marks2 : List ℕ) → AreDistinct c.slots → AreDistinct (module_names c.modules) → IsSlotOf c i slot → fin.get ages i ≡ None →
+    own2 ≡ own ++ handing (Attach c.guest slot f age version) u ∷ [] → ages2 ≡ fin.insert ages i age → p2 ≡ put_to p p.state (attached i code unit p.ledger) →
+    IsEven c (desk_of p own ages files marks) → IsEven c (desk_of p2 own2 ages2 files marks2)
+attach_even c i slot f age version code unit u p p2 own own2 ages ages2 files marks marks2 slots names its unheld is_own is_ages becomes even = record {
+  noted = λ j a e. elim (cases_Bool (eq_by_cmp nat_cmp j i)) [
+    | inl same ↦ ap is_some (ap (λ (q : Process). image_at q.ledger j) becomes ∙ image-same p.ledger.segments i j _ same)
+    | inr other ↦ ap is_some (ap (λ (q : Process). image_at q.ledger j) becomes ∙ image-else p.ledger.segments i j _ other)
+        ∙ even.noted j a (sym (ap (λ m. fin.get m j) is_ages ∙ got-insert ages i age j ∙ ap (λ b. cond b (Some age) (fin.get ages j)) other) ∙ e)
+  ];
+  counts = λ s a. subst (λ m. IsEvenAt c s a m own2) (sym is_ages) (subst (IsEvenAt c s a (fin.insert ages i age)) (sym is_own) (even-attach c i slot age slots names its c.guest f version u ages own unheld even.counts s a));
+}
+
 pub attach-keeps : (plan : Plan) (c : Caller) (k seg slot f age version base : ℕ) (program : Program) (code : Code) (unit : Blocks) (u : Content) (p p2 : Process) (own own2 : List Told) (ages ages2 : Ages) (files marks marks2 : List ℕ) → seg < 4 →
+    AreDistinct c.slots → AreDistinct (module_names c.modules) → IsSlotOf c (segment_of k seg) slot → fin.get ages (segment_of k seg) ≡ None →
     find (is_module k) p.state.io.mapped ≡ Some (record { «module» = k; file = f }) → base_at (setting_of plan) k ≡ Some base → slice_get plan.elfs f ≡ Some program → drop seg (codes_of program base) ≡ code ∷ drop (seg + 1) (codes_of program base) →
     own2 ≡ own ++ handing (Attach c.guest slot f age version) u ∷ [] → ages2 ≡ fin.insert ages (segment_of k seg) age →
     p2 ≡ put_to p p.state (attached (segment_of k seg) code unit p.ledger) →
     KeepsBut plan c (segment_of k seg ∷ []) (desk_of p own ages files marks) (desk_of p2 own2 ages2 files marks2)
-attach-keeps plan c k seg slot f age version base program code unit u p p2 own own2 ages ages2 files marks marks2 small mapped at known next is_own is_ages becomes = record {
+attach-keeps plan c k seg slot f age version base program code unit u p p2 own own2 ages ages2 files marks marks2 small slots names its unheld mapped at known next is_own is_ages becomes = record {
   hosted = λ h. attach-hosts (setting_of plan) k seg base (record { «module» = k; file = f }) program code unit p p2 mapped at known small (codes-start program base seg code next) becomes h;
   holds = λ j e h x got.
       let other : eq_by_cmp nat_cmp j (segment_of k seg) ≡ false = not_same j (segment_of k seg) e in
@@ -202,10 +219,8 @@ attach-keeps plan c k seg slot f age version base program code unit u p p2 own o
       still-holds plan c j x (handing (Attach c.guest slot f age version) u) (desk_of p own ages files marks) (desk_of p2 own2 ages2 files marks2) (h x before) refl is_own
       (ap (λ m. fin.get m j) is_ages ∙ got-insert ages (segment_of k seg) age j ∙ ap (λ b. cond b (Some age) (fin.get ages j)) other);
   covered = λ h. subst AreCovered (sym is_own) (covered-stays own (handing (Attach c.guest slot f age version) u) (λ s a. refl) h);
+  even = attach_even c (segment_of k seg) slot f age version code unit u p p2 own own2 ages ages2 files marks marks2 slots names its unheld is_own is_ages becomes;
 }
-
-self : (i : ℕ) → eq_by_cmp nat_cmp i i ≡ true
-self i = (eq_by_cmp_equiv nat_cmp_total).refl i
 
 pub attach-holds : (plan : Plan) (c : Caller) (i slot f age version : ℕ) (code : Code) (unit : Blocks) (u : Content) (p p2 : Process) (own own2 : List Told) (ages ages2 : Ages) (files marks2 : List ℕ) → (its : IsSlotOf c i slot) → i % 4 < plan.layout.segs →
     u.slot ≡ slot_for its.row (i % 4) c.recipe → u.image ≡ code →

@@ -35,38 +35,10 @@ use Rattle.guest_proc.specs.Process.{Process}
 use Rattle.module_laws.specs.Hosted.{AreHosted}
 use Rattle.module_laws.proofs.Hosting.{ledger-hosts, offer-keeps-images}
 use Rattle.guest_answers.specs.Plan.{Plan, caller_of, setting_of}
-use Rattle.guest_answers.specs.Desk.{Desk, Holds, HoldsAt, IsBuiltBy, KeepsBut, MayHandIn, desk_of}
-
--- ---- slots
-
-item_at : {A : Type 0} (xs : List A) (i : ℕ) → i < length xs → (x : A) × (slice_get xs i ≡ Some x)
-item_at [] i h = absurd (omega (arith, h))
-item_at (x ∷ xs) zero h = (x, refl)
-item_at (x ∷ xs) (suc i) h = item_at xs i (omega (arith, h))
-
--- a segment has one slot
-pub slot-is : (c : Caller) (i a b : ℕ) → AreDistinct c.slots → IsSlotOf c i a → IsSlotOf c i b → a ≡ b
-slot-is c i a b apart x y =
-    let row : x.row ≡ y.row = same_Some x.row y.row (sym x.known ∙ y.known) in
-    apart a b (slot_for y.row (i % 4) c.recipe) (x.there ∙ ap (λ (m : ModuleEntry). Some (slot_for m (i % 4) c.recipe)) row) y.there
-
--- the number that the slots of a plan have for it
-pub is-slot : (plan : Plan) (guest i : ℕ) (recipe : Recipe) (slot : ℕ) → i / 4 < length plan.modules →
-    ((modules : List ModuleEntry) (m : ModuleEntry) → slice_get modules (i / 4) ≡ Some m → slice_get (slots_in modules plan.layout) slot ≡ Some (slot_for m (i % 4) recipe)) → IsSlotOf (caller_of plan guest recipe) i slot
-is-slot plan guest i recipe slot within at =
-    let row : (m : ModuleEntry) × (slice_get plan.modules (i / 4) ≡ Some m) = item_at plan.modules (i / 4) within in
-    record { row = row.0; known = row.1; there = at plan.modules row.0 row.1 }
-
--- and a slot one segment
-pub segment-is : (c : Caller) (i j slot : ℕ) → AreDistinct (module_names c.modules) → IsSlotOf c i slot → IsSlotOf c j slot → i ≡ j
-segment-is c i j slot apart x y =
-    let same : slot_for x.row (i % 4) c.recipe ≡ slot_for y.row (j % 4) c.recipe = same_Some _ _ (sym x.there ∙ y.there) in
-    let seg : i % 4 ≡ j % 4 = ap (λ (s : Slot). s.seg) same in
-    let name : x.row.name ≡ y.row.name = ap (λ (s : Slot). s.name) same in
-    let one : slice_get (module_names c.modules) (i / 4) ≡ Some y.row.name = slice_get-map (λ (m : ModuleEntry). m.name) c.modules (i / 4) ∙ ap (λ o. option_map (λ (m : ModuleEntry). m.name) o) x.known ∙ ap Some name in
-    let two : slice_get (module_names c.modules) (j / 4) ≡ Some y.row.name = slice_get-map (λ (m : ModuleEntry). m.name) c.modules (j / 4) ∙ ap (λ o. option_map (λ (m : ModuleEntry). m.name) o) y.known in
-    let number : i / 4 ≡ j / 4 = apart (i / 4) (j / 4) y.row.name one two in
-    omega (arith, seg, number)
+use Rattle.guest_answers.specs.Desk.{Desk, Holds, HoldsAt, IsBuiltBy, IsEven, IsEvenAt, KeepsBut, MayHandIn, desk_of}
+use Rattle.guest_answers.proofs.Slots.{segment-is}
+use Rattle.guest_answers.proofs.Evening.{IsQuiet, even-detach, even-same, even-stays, gone-else, gone-same}
+use Rattle.module_laws.proofs.Lists.{none-some}
 
 -- ---- what is held stays held
 
@@ -107,10 +79,11 @@ keeps-both plan c gone old mid new a b = record {
   hosted = λ h. b.hosted (a.hosted h);
   holds = λ i e h. b.holds i e (a.holds i refl h);
   covered = λ h. b.covered (a.covered h);
+  even = λ h. b.even (a.even h);
 }
 
 pub nothing-keeps : (plan : Plan) (c : Caller) (d : Desk) → KeepsBut plan c [] d d
-nothing-keeps plan c d = record { hosted = λ h. h; holds = λ i e h. h; covered = λ h. h }
+nothing-keeps plan c d = record { hosted = λ h. h; holds = λ i e h. h; covered = λ h. h; even = λ h. h }
 
 -- ---- blocks are offered
 
@@ -123,6 +96,7 @@ offer-keeps plan c i old new is =
       holds = λ j e h code at. same-holds plan c j code old new (is ∙ ap (λ p. record old { process = p }) (sym process))
           (h code (sym (offer-keeps-images i j old.process.ledger) ∙ sym (ap (λ (p : Process). image_at p.ledger j) process) ∙ at));
       covered = λ h. subst AreCovered (sym (ap (λ d. d.own) is)) h;
+      even = even-same c old new (ap (λ d. d.own) is) (ap (λ d. d.ages) is) (λ j. ap (λ (p : Process). image_at p.ledger j) process ∙ offer-keeps-images i j old.process.ledger);
     }
 
 pub merge-keeps : (plan : Plan) (c : Caller) (slot age : ℕ) (addrs marks : List ℕ) (reply : Merged) (old new : Desk) →
@@ -131,6 +105,7 @@ merge-keeps plan c slot age addrs marks reply old new is = record {
   hosted = λ h. subst (AreHosted (setting_of plan)) (sym (ap (λ d. d.process) is)) h;
   holds = λ j e h code at. still-holds plan c j code (plain (Merge c.guest slot age addrs reply)) old new (h code (sym (ap (λ d. image_at d.process.ledger j) is) ∙ at)) refl (ap (λ d. d.own) is) (ap (λ d. fin.get d.ages j) is);
   covered = λ h. subst AreCovered (sym (ap (λ d. d.own) is)) (covered-stays old.own (plain (Merge c.guest slot age addrs reply)) (λ s a. refl) h);
+  even = even-stays c (plain (Merge c.guest slot age addrs reply)) old new (record { attach = λ s a. refl; detach = λ s a. refl }) (ap (λ d. d.own) is) (ap (λ d. d.ages) is) (λ j. ap (λ d. image_at d.process.ledger j) is);
 }
 
 -- ---- a unit is let go
@@ -145,21 +120,36 @@ neq_of a b h = elim (cases_Bool (a == b)) [
 ]
 
 age_else : (ages : Ages) (i j : ℕ) → (i ≡ j → ⊥) → fin.get (fin.remove ages i) j ≡ fin.get ages j
-age_else ages i j apart = fin.get-remove nat_cmp_total ages i j ∙ elim (cases_Bool (eq_by_cmp nat_cmp j i)) [
+age_else ages i j apart = elim (cases_Bool (eq_by_cmp nat_cmp j i)) [
   | inl same ↦ absurd (apart (sym (tied j i same)))
-  | inr other ↦ ap (λ b. cond b None (fin.get ages j)) other
+  | inr other ↦ gone-else ages i j other
 ]
 
-pub detach-keeps : (plan : Plan) (c : Caller) (i slot age : ℕ) (marks : List ℕ) (old new : Desk) → AreDistinct (module_names c.modules) → IsSlotOf c i slot → HoldsOwn slot age old.own →
+-- it was let go
+detach_even : (c : Caller) (i slot age : ℕ) (marks : List ℕ) (old new : Desk) → AreDistinct c.slots → AreDistinct (module_names c.modules) → IsSlotOf c i slot → fin.get old.ages i ≡ Some age →
+    new ≡ desk_of old.process (old.own ++ plain (Detach c.guest slot age) ∷ []) (fin.remove old.ages i) old.files marks → IsEven c old → IsEven c new
+detach_even c i slot age marks old new slots names its at is even =
+    let own : new.own ≡ old.own ++ plain (Detach c.guest slot age) ∷ [] = ap (λ d. d.own) is in
+    let ages : new.ages ≡ fin.remove old.ages i = ap (λ d. d.ages) is in
+    record {
+      noted = λ j a e. elim (cases_Bool (eq_by_cmp nat_cmp j i)) [
+        | inl same ↦ absurd (none-some (fin.get (fin.remove old.ages i) j) a (gone-same old.ages i j same) (sym (ap (λ m. fin.get m j) ages) ∙ e))
+        | inr other ↦ ap (λ d. is_some (image_at d.process.ledger j)) is ∙ even.noted j a (sym (gone-else old.ages i j other) ∙ sym (ap (λ m. fin.get m j) ages) ∙ e)
+      ];
+      counts = λ s a. subst (λ m. IsEvenAt c s a m new.own) (sym ages) (subst (IsEvenAt c s a (fin.remove old.ages i)) (sym own) (even-detach c i slot age slots names its c.guest old.ages old.own at even.counts s a));
+    }
+
+pub detach-keeps : (plan : Plan) (c : Caller) (i slot age : ℕ) (marks : List ℕ) (old new : Desk) → AreDistinct c.slots → AreDistinct (module_names c.modules) → IsSlotOf c i slot → HoldsOwn slot age old.own → fin.get old.ages i ≡ Some age →
     new ≡ desk_of old.process (old.own ++ plain (Detach c.guest slot age) ∷ []) (fin.remove old.ages i) old.files marks → KeepsBut plan c (i ∷ []) old new
-detach-keeps plan c i slot age marks old new apart its held is = record {
+detach-keeps plan c i slot age marks old new slots apart its held at is = record {
   hosted = λ h. subst (AreHosted (setting_of plan)) (sym (ap (λ d. d.process) is)) h;
-  holds = λ j e h code at.
-      let one = h code (sym (ap (λ d. image_at d.process.ledger j) is) ∙ at) in
+  holds = λ j e h code image.
+      let one = h code (sym (ap (λ d. image_at d.process.ledger j) is) ∙ image) in
       let other : (slot == one.slot) ≡ false = neq_of slot one.slot (λ same. not-in j i e (segment-is c i j slot apart its (subst (IsSlotOf c j) (sym same) one.its))) in
       still-holds plan c j code (plain (Detach c.guest slot age)) old new one (ap (λ b. b && (age == one.age)) other) (ap (λ d. d.own) is)
       (ap (λ d. fin.get d.ages j) is ∙ age_else old.ages i j (not-in j i e));
   covered = λ h. subst AreCovered (sym (ap (λ d. d.own) is)) (covered-let-go old.own c.guest slot age held h);
+  even = detach_even c i slot age marks old new slots apart its at is;
 }
 
 -- ---- what a merge asks for

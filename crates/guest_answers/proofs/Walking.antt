@@ -1,5 +1,7 @@
 -- The units of a module's segments are attached, one after the other.
-use Rattle.std.proofs.Common.{◌≡◌, ℕ, ◌+◌, true, List, [], ◌∷◌, ◌++◌, length, drop, refl, sym, ◌∙◌, ap, subst, arith, inl, inr, append_assoc, zero, suc}
+use Rattle.std.proofs.Common.{◌≡◌, ℕ, ◌+◌, ◌<◌, ◌≤◌, cond, Some, None, true, false, List, [], ◌∷◌, ◌++◌, length, drop, refl, sym, ◌∙◌, ap, subst, arith, inl, inr, append_assoc, zero, suc}
+use Rattle.std.specs.Ordering.{nat_cmp, eq_by_cmp}
+use Rattle.std.specs.FinMap as fin
 use Rattle.std.proofs.lemmas.List.{append-nil}
 use Rattle.std.proofs.lemmas.Bool.{cases_Bool}
 use Rattle.std.proofs.lemmas.Bool.Decides.{nat_tests}
@@ -11,14 +13,17 @@ use Rattle.block_ledger.specs.Traced.{Scheme, all_attached, unit_blocks}
 use Rattle.registry.specs.Registry.{Told}
 use Rattle.registry.specs.Opening.{Opening}
 use Rattle.registrar.specs.Calls.{AreCovered}
-use Rattle.guest_script.specs.Script.{Caller}
+use Rattle.guest_script.specs.Script.{Ages, Caller, with_told}
+use Rattle.registry.specs.declared.entry.Entry.{Entry}
+use Rattle.registry.specs.declared.entry.Entry.TheVariants as entries
+use Rattle.block_ledger.proofs.Gets.{got-insert, tied}
 use Rattle.guest_script.specs.Told.{files_told, units_told}
 use Rattle.guest_script.proofs.Going.{told-goes-on}
 use Rattle.region_laws.specs.Standing.{AreThere}
 use Rattle.guest_proc.specs.Maps.{AreClear, put_to}
 use Rattle.guest_proc.specs.Process.{Process}
 use Rattle.guest_answers.specs.Plan.{Plan, Fits}
-use Rattle.guest_answers.specs.Desk.{Desk, HoldsAt, IsBuiltBy, IsKept, KeepsBut}
+use Rattle.guest_answers.specs.Desk.{AreUnheld, Desk, HoldsAt, IsBuiltBy, IsEven, IsKept, KeepsBut}
 use Rattle.guest_answers.specs.Makes.{AreApart, AreElsewhere, AttachesAll, AttachesOne, Makes}
 use Rattle.guest_answers.proofs.Making.{makes-both, makes-none}
 use Rattle.guest_answers.proofs.Attaching.{first-clear, first-there}
@@ -143,4 +148,32 @@ kept-next plan c after i now new same keeps holds gone kept = record {
     | inr other ↦ keeps.holds j other (subst (λ x. HoldsAt plan x j now) (sym same) (kept.holds j e))
   ]);
   covered = keeps.covered kept.covered;
+  even = subst (λ x. IsEven x new) same (keeps.even (subst (λ x. IsEven x now) (sym same) kept.even));
 }
+
+-- ---- what is not noted yet
+
+told_else : (i j : ℕ) (e : Entry) (ages : Ages) → eq_by_cmp nat_cmp j i ≡ false → fin.get (with_told i e ages) j ≡ fin.get ages j
+told_else i j (entries.Map guest k file) ages other = refl
+told_else i j (entries.Replace guest k f reply) ages other = refl
+told_else i j (entries.Attach guest slot f age version) ages other = got-insert ages i age j ∙ ap (λ b. cond b (Some age) (fin.get ages j)) other
+told_else i j (entries.Merge guest slot age addrs reply) ages other = refl
+told_else i j (entries.Detach guest slot age) ages other = refl
+told_else i j (entries.Due slot age version) ages other = refl
+told_else i j (entries.Acked slot age version) ages other = refl
+told_else i j (entries.Failed slot) ages other = refl
+told_else i j entries.Finish ages other = refl
+
+later : (k seg s : ℕ) → seg < s → eq_by_cmp nat_cmp (segment_of k s) (segment_of k seg) ≡ false
+later k seg s less = elim (cases_Bool (eq_by_cmp nat_cmp (segment_of k s) (segment_of k seg))) [
+  | inl same ↦ absurd (omega (arith, tied (segment_of k s) (segment_of k seg) same, less))
+  | inr other ↦ other
+]
+
+-- those from segment seg on are not
+abbrev pub AreUnheldFrom : ℕ → ℕ → Ages → Type 0
+AreUnheldFrom k seg ages = (s : ℕ) → seg ≤ s → s < 4 → fin.get ages (segment_of k s) ≡ None
+
+pub unheld-next : (scheme : Scheme) (c : Caller) (k seg f : ℕ) (codes : List Code) (now new : Desk) → AttachesOne scheme c k seg f codes now new → AreUnheldFrom k seg now.ages → AreUnheldFrom k (seg + 1) new.ages
+unheld-next scheme c k seg f codes now new one before s more small =
+    ap (λ m. fin.get m (segment_of k s)) one.makes.ages ∙ told_else (segment_of k seg) (segment_of k s) one.told.entry now.ages (later k seg s (omega (arith, more))) ∙ before s (omega (arith, more)) small
