@@ -38,7 +38,7 @@ use Rattle.guest_answers.specs.Desk.{AreUnheld, Desk, IsKept, desk_of}
 use Rattle.guest_answers.specs.Answer.{Answers}
 use Rattle.guest_answers.specs.Makes.{AreApart, AreElsewhere, AttachesAll, Makes, is_in}
 use Rattle.guest_answers.proofs.Holding.{same-holds, still-holds}
-use Rattle.guest_answers.proofs.Evening.{IsQuiet, even-same, even-stays, some-image}
+use Rattle.guest_answers.proofs.Evening.{IsQuiet, even-same, even-stays}
 use Rattle.guest_answers.proofs.Joining.{attached-go-on}
 use Rattle.guest_answers.proofs.Making.{makes-both}
 
