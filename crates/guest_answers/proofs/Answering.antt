@@ -29,6 +29,7 @@ use Rattle.guest_answers.specs.Plan.{Plan, Fits, setting_of}
 use Rattle.guest_answers.specs.Desk.{Desk, IsKept, KeepsBut, desk_of}
 use Rattle.guest_answers.specs.Answer.{Answers, is_call, result_of}
 use Rattle.guest_answers.proofs.Holding.{still-holds}
+use Rattle.guest_answers.proofs.Evening.{even-stays}
 
 length_map : {A B : Type 0} (f : A → B) (xs : List A) → length (map f xs) ≡ length xs
 length_map f [] = refl
@@ -77,6 +78,7 @@ replace-keeps plan c k f value reply p p2 own own2 ages files marks marks2 is_ow
   holds = λ j e h code at. still-holds plan c j code (plain (Replace c.guest k f reply)) (desk_of p own ages files marks) (desk_of p2 own2 ages files marks2)
       (h code (sym (ap (λ (q : Process). image_at q.ledger j) becomes) ∙ at)) refl is_own refl;
   covered = λ h. subst AreCovered (sym is_own) (covered-stays own (plain (Replace c.guest k f reply)) (λ s a. refl) h);
+  even = even-stays c (plain (Replace c.guest k f reply)) (desk_of p own ages files marks) (desk_of p2 own2 ages files marks2) (record { attach = λ s a. refl; detach = λ s a. refl }) is_own refl (λ j. ap (λ (q : Process). image_at q.ledger j) becomes);
 }
 
 -- a stop at a call of modules is no end
@@ -85,4 +87,4 @@ not-call s end is e = let wrong : is_call (stop.Ended end) ≡ true = ap is_call
 
 -- what is kept stays
 pub keeps-all : (plan : Plan) (c : Caller) (old new : Desk) → KeepsBut plan c [] old new → IsKept plan c [] old → IsKept plan c [] new
-keeps-all plan c old new keeps kept = record { hosted = keeps.hosted kept.hosted; holds = λ j e. keeps.holds j e (kept.holds j e); covered = keeps.covered kept.covered }
+keeps-all plan c old new keeps kept = record { hosted = keeps.hosted kept.hosted; holds = λ j e. keeps.holds j e (kept.holds j e); covered = keeps.covered kept.covered; even = keeps.even kept.even }

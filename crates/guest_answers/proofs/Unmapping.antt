@@ -1,6 +1,6 @@
 -- A module goes.
 use Rattle.std.proofs.Common.{◌≡◌, ℕ, ◌/◌, ◌<◌, ◌≤◌, ◌==◌, ◌||◌, Bool, true, false, cond, List, [], ◌∷◌, ◌++◌, length, Option, Some, None, refl, sym, ◌∙◌, ap, subst, inl, inr, eqb-true}
-use Rattle.std.specs.Prelude.{filter, find, not, slice_get}
+use Rattle.std.specs.Prelude.{filter, find, is_some, not, slice_get}
 use Rattle.std.specs.List.{list_any}
 use Rattle.std.specs.Option.{option_map}
 use Rattle.std.specs.FinMap as fin
@@ -30,10 +30,12 @@ use Rattle.module_laws.specs.Hosted.{AreHosted, ModuleStands}
 use Rattle.module_laws.proofs.Going.{mapped-is-placed, unplace-hosts}
 use Rattle.module_laws.proofs.Hosting.{result-hosts}
 use Rattle.guest_answers.specs.Plan.{Plan, setting_of}
-use Rattle.guest_answers.specs.Desk.{Desk, IsKept}
+use Rattle.guest_answers.specs.Desk.{Desk, IsEvenAt, IsKept}
 use Rattle.guest_answers.specs.Answer.{Answers}
 use Rattle.guest_answers.specs.Room.{AreAttached, AreOnce, PartsAll}
+use Rattle.module_laws.proofs.Lists.{none-some}
 use Rattle.guest_answers.proofs.Holding.{same-holds}
+use Rattle.guest_answers.proofs.Evening.{has-attached, images-offered}
 use Rattle.guest_answers.proofs.Attaching.{row-within}
 use Rattle.guest_answers.proofs.Joining.{leaves-go-on}
 use Rattle.guest_answers.proofs.Rooming.{keys-attached, keys-once}
@@ -183,12 +185,40 @@ kept_image : (b : Bool) (o : Option Segment) (code : Code) → option_map (λ (x
 kept_image false o code e = (refl, e)
 kept_image true o code e = absurd (cc)
 
+has_both : (k j : ℕ) (is : List ℕ) → has j is ≡ true → is_its k j ≡ true → has j (filter (is_its k) is) ≡ true
+has_both k j [] e its = e
+has_both k j (i ∷ is) e its = elim (cases_Bool (i == j)) [
+  | inl same ↦
+      let here : is_its k i ≡ true = ap (is_its k) (eqb-true i j same) ∙ its in
+      rw here (ap (λ b. b || has j (filter (is_its k) is)) same)
+  | inr other ↦
+      let rest : has j is ≡ true = sym (ap (λ b. b || has j is) other) ∙ e in
+      elim (cases_Bool (is_its k i)) [
+        | inl here ↦ rw here (ap (λ b. b || has j (filter (is_its k) is)) other ∙ has_both k j is rest its)
+        | inr off ↦ rw off (has_both k j is rest its)
+      ]
+]
+
+-- what is noted still is of another module
+other_by : (b : Bool) (o : Option Segment) → (b ≡ true → ⊥) → is_some (option_map (λ (x : Segment). x.image) o) ≡ true → is_some (option_map (λ (x : Segment). x.image) (cond (not b) o None)) ≡ true
+other_by true o off there = absurd (off refl)
+other_by false o off there = there
+
+other_stays : (c : Caller) (k j age : ℕ) (ns : List ℕ) (old mid : Desk) → ns ≡ segments_of k old.process.ledger → PartsAll c ns old mid → ((i : ℕ) → has i ns ≡ true → fin.get mid.ages i ≡ None) → fin.get mid.ages j ≡ Some age → is_some (image_at mid.process.ledger j) ≡ true →
+    is_some (option_map (λ (x : Segment). x.image) (cond (not (j / 4 == k)) (fin.get mid.process.ledger.segments j) None)) ≡ true
+other_stays c k j age ns old mid is parts let_go at there = other_by (j / 4 == k) (fin.get mid.process.ledger.segments j)
+    (λ its.
+    let before : image_at mid.process.ledger j ≡ image_at old.process.ledger j = ap (λ (p : Process). image_at p.ledger j) parts.becomes ∙ images-offered ns old.process.ledger j in
+    let here : has j ns ≡ true = ap (has j) is ∙ has_both k j (fin.keys old.process.ledger.segments) (has-attached old.process.ledger j (sym (ap is_some before) ∙ there)) its in
+    none-some (fin.get mid.ages j) age (let_go j here) at)
+    there
+
 pub unmap-keeps : (plan : Plan) (c : Caller) (k f base : ℕ) (program : Program) (ns : List ℕ) (old mid new : Desk) (gone : Process) →
     Some f ≡ option_map (λ (m : Mapping). m.file) (find (is_module k) old.process.state.io.mapped) → base_at (setting_of plan) k ≡ Some base → slice_get plan.elfs f ≡ Some program →
-    ns ≡ segments_of k old.process.ledger → PartsAll c ns old mid → IsKept plan c ns mid → new ≡ record mid { process = new.process } →
+    ns ≡ segments_of k old.process.ledger → PartsAll c ns old mid → IsKept plan c ns mid → ((j : ℕ) → has j ns ≡ true → fin.get mid.ages j ≡ None) → new ≡ record mid { process = new.process } →
     gone ≡ put_to mid.process (unplaced_state mid.process.state k program base) (unmapped k (codes_of program base) mid.process.ledger) → new.process ≡ put_to gone (with_result gone.state 0) gone.ledger →
     IsKept plan c [] new
-unmap-keeps plan c k f base program ns old mid new gone found at known is parts kept same went answered =
+unmap-keeps plan c k f base program ns old mid new gone found at known is parts kept let_go same went answered =
     let w = setting_of plan in
     let one = mapping_of (find (is_module k) mid.process.state.io.mapped) f (found ∙ ap (λ (q : Process). option_map (λ (m : Mapping). m.file) (find (is_module k) q.state.io.mapped)) (sym parts.becomes)) in
     let led : new.process.ledger ≡ unmapped k (codes_of program base) mid.process.ledger = ap (λ (q : Process). q.ledger) answered ∙ ap (λ (q : Process). q.ledger) went in
@@ -200,4 +230,12 @@ unmap-keeps plan c k f base program ns old mid new gone found at known is parts 
           let out : has j ns ≡ false = ap (has j) is ∙ not_its k j (fin.keys old.process.ledger.segments) stays.0 in
           same-holds plan c j code mid new same (kept.holds j out code stays.1);
       covered = subst AreCovered (sym (ap (λ (d : Desk). d.own) same)) kept.covered;
+      even = record {
+        noted = λ j age e.
+            let before : fin.get mid.ages j ≡ Some age = sym (ap (λ (d : Desk). fin.get d.ages j) same) ∙ e in
+            let image : image_at new.process.ledger j ≡ option_map (λ (x : Segment). x.image) (cond (not (j / 4 == k)) (fin.get mid.process.ledger.segments j) None) =
+            ap (λ l. image_at l j) led ∙ ap (option_map (λ (x : Segment). x.image)) (got-kept mid.process.ledger.segments (λ i. not (i / 4 == k)) j) in
+            ap is_some image ∙ other_stays c k j age ns old mid is parts let_go before (kept.even.noted j age before);
+        counts = λ slot age. subst (λ m. IsEvenAt c slot age m new.own) (sym (ap (λ (d : Desk). d.ages) same)) (subst (IsEvenAt c slot age mid.ages) (sym (ap (λ (d : Desk). d.own) same)) (kept.even.counts slot age));
+      };
     }

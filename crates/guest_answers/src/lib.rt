@@ -3,7 +3,9 @@
 //! It stands on `guest_proc` for the guest's process, on `registrar` for its calls, on `guest_script` for which calls its
 //! requests are, and on the laws of `module_laws`. The layer above uses: [`begin`], [`answer_stop`], [`make_room`] and
 //! [`close`] make the entries of just the requests that the ledger of the run asks, put the process to the ledger that they
-//! lead to, and keep that each attached segment's generation is held; an answered call joins whatever run came before it.
+//! lead to, and keep that each attached segment's generation is held, once, so that at its end a guest has let each go as
+//! often as it attached it; an answered call joins whatever run came before it. All entries are the guest's own, also where
+//! memory ran out behind some of them.
 //! Nothing stands on it yet.
 #![tactic(auto)]
 
