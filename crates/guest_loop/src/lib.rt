@@ -8,6 +8,8 @@
 
 mod guest;
 mod run;
+mod tell;
+mod turns;
 
 pub use guest::{GuestEnd, Ran, Taken, Work};
 pub use guest_answers::Plan;

@@ -8,9 +8,18 @@ ghost use Rattle.guest_answers.specs.Plan.{Fits};
 ghost use Rattle.guest_loop.specs.Guest.{IsToldBy, caller_for};
 
 use crate::guest::{Ran, Work};
-use guest_answers::Plan;
+use crate::tell::tell;
+use crate::turns::run_whole;
+use block_book::Book;
+use cc_base::Steps;
+use code_book::CodeBook;
+use guest_answers::{AgeMap, Desk, Plan};
+use guest_proc::{Proc, Setup};
 use registrar::Registrar;
+use slot_list::Recipe;
 use std::alloc::{AllocError, Global};
+use std::marker::Brand;
+use std::sync::ledger::{Blank, Ledger};
 
 /// Runs a guest to its end. Its program is the file that the registrar tells for its module; where that can't be entered, it is
 /// told as unplaced, and nothing is attached. The only error is want of memory; then it has made some entries.
@@ -30,7 +39,49 @@ pub fn run_guest<R: Registrar>(
     // Also where memory ran out.
     ensures grows { Grows work.guest (R.holder registrar.old) (R.holder registrar.new) }
 {
-    let _ = (alloc, plan.modules.len());
-    let _: Work = work;
-    Err(AllocError)
+    let book = CodeBook::new(alloc)?;
+    run_over::<CodeBook, Brand, R>(alloc, plan, work, book, Blank::new(1), registrar)
+}
+
+// Runs it over a book to which nothing has happened. Nobody asks how many blocks are built.
+fn run_over<B: Book + Drop, L: Ledger, R: Registrar>(
+    alloc: Global,
+    plan: &Plan,
+    work: Work,
+    book: B,
+    blank: Blank,
+    registrar: &mut R,
+) -> Result<Ran, AllocError> {
+    let mut steps = Steps::<L>::of(blank);
+    let Work {
+        guest,
+        name,
+        module,
+        setup,
+    } = work;
+    let mut desk = new_desk(alloc, guest, setup, book)?;
+    let end = run_whole(plan, module, &mut desk, &mut steps, registrar)?;
+    tell(alloc, name, end, desk)
+}
+
+// A guest that has not begun: it holds nothing.
+fn new_desk<B: Book + Drop>(
+    alloc: Global,
+    number: u32,
+    setup: Setup,
+    book: B,
+) -> Result<Desk<B>, AllocError> {
+    let recipe = Recipe {
+        isa: setup.isa,
+        tool: setup.tool,
+        max: setup.max,
+    };
+    Ok(Desk {
+        guest: Proc::start(alloc, setup, book)?,
+        number,
+        recipe,
+        ages: AgeMap::new(alloc),
+        files: Vec::new(alloc),
+        marks: Vec::new(alloc),
+    })
 }
