@@ -63,6 +63,8 @@ replace-answers plan scheme c o k f value reply p p2 own own2 ages files marks m
       asked = asked_at p.ledger.counts.blocks (MakesBe k f) ∷ [];
       told = plain (Replace c.guest k f reply) ∷ [];
       makes = record { own = is_own; made = (refl, tt); ages = refl; files = sym (append-nil files); marks = is_marks };
+      fuel = ap (λ (q : Process). q.fuel) becomes;
+      isa = ap (λ (q : Process). q.state.cpu.isa) becomes;
       goes = λ maps units requests start waits.
           subst (λ q. Goes (setting_of plan) scheme (maps ++ []) (units ++ []) (requests ++ made) start q) (sym state)
           (subst (λ ms. Goes (setting_of plan) scheme ms (units ++ []) (requests ++ made) start (put_to p (after_replace (setting_of plan) p.state k f) p.ledger)) (sym (append-nil maps))

@@ -141,6 +141,8 @@ unknown-answers plan scheme c o k value file p p2 own own2 ages files marks mark
       asked = made;
       told = plain (Map c.guest k None) ∷ [];
       makes = record { own = is_own ∙ ap (λ x. own ++ plain (Map c.guest k x) ∷ []) none; made = (refl, tt); ages = refl; files = sym (append-nil files); marks = is_marks };
+      fuel = ap (λ (q : Process). q.fuel) becomes;
+      isa = ap (λ (q : Process). q.state.cpu.isa) becomes;
       goes = λ maps units requests start waits.
           subst (λ q. Goes (setting_of plan) scheme (maps ++ []) (units ++ []) (requests ++ made) start q) (sym state)
           (subst (λ ms. Goes (setting_of plan) scheme ms (units ++ []) (requests ++ made) start last) (sym (append-nil maps))
@@ -168,6 +170,8 @@ refused-answers plan scheme c k f base value program file p mid p2 own own2 ages
       asked = made;
       told = plain (Map c.guest k (Some f)) ∷ [];
       makes = asks_file c k f file p p2 own own2 ages files files2 marks marks2 some is_own is_files is_marks;
+      fuel = ap (λ (q : Process). q.fuel) becomes ∙ ap (λ (q : Process). q.fuel) places.2;
+      isa = ap (λ (q : Process). q.state.cpu.isa) becomes ∙ ap (λ (q : Process). q.state.cpu.isa) places.2;
       goes = λ maps units requests start waits.
           subst (λ q. Goes (setting_of plan) scheme (maps ++ f ∷ []) (units ++ []) (requests ++ made) start q) (sym state)
           (subst (λ us. Goes (setting_of plan) scheme (maps ++ f ∷ []) us (requests ++ made) start last) (sym (append-nil units))
@@ -201,6 +205,8 @@ mapped-answers plan scheme c k f base program file p mid own own2 ages files fil
         files = ap (λ (d : Desk). d.files) same ∙ m.files;
         marks = ap (λ (d : Desk). d.marks) same ∙ m.marks;
       };
+      fuel = ap (λ (q : Process). q.fuel) becomes ∙ ap (λ (q : Process). q.fuel) all.becomes ∙ ap (λ (q : Process). q.fuel) places.2;
+      isa = ap (λ (q : Process). q.state.cpu.isa) becomes ∙ ap (λ (q : Process). q.state.cpu.isa) all.becomes ∙ ap (λ (q : Process). q.state.cpu.isa) places.2;
       goes = λ maps units requests start waits.
           let first : Attaches w scheme k f 0 (codes_of program base) (maps ++ f ∷ []) units (requests ++ ask) start mid =
           subst (λ q. Attaches w scheme k f 0 (codes_of program base) (maps ++ f ∷ []) units (requests ++ ask) start q) (sym places.2) (placed-attaches w scheme maps units requests start p k base f program places.0 waits at known places.1) in

@@ -167,6 +167,8 @@ unmap-answers plan scheme c k f base program ns old mid new gone found at known 
         files = ap (λ (d : Desk). d.files) same ∙ m.files;
         marks = ap (λ (d : Desk). d.marks) same ∙ m.marks;
       };
+      fuel = ap (λ (q : Process). q.fuel) answered ∙ ap (λ (q : Process). q.fuel) went ∙ ap (λ (q : Process). q.fuel) parts.becomes;
+      isa = ap (λ (q : Process). q.state.cpu.isa) answered ∙ ap (λ (q : Process). q.state.cpu.isa) went ∙ ap (λ (q : Process). q.state.cpu.isa) parts.becomes;
       goes = λ maps units requests start waits.
           let first : Leaves w scheme k base program ns maps units requests start old.process =
           subst (λ xs. Leaves w scheme k base program xs maps units requests start old.process) (sym is) (unmap-leaves w scheme maps units requests start old.process k base program waits at from) in

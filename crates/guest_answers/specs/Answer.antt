@@ -18,11 +18,14 @@ use Rattle.map_laws.specs.Came.{Goes, Waits}
 use Rattle.guest_answers.specs.Desk.{Desk}
 use Rattle.guest_answers.specs.Makes.{Makes}
 
--- Whatever came before, this call is answered by these requests and what their entries told: the run goes on from new.
+-- Whatever came before, this call is answered by these requests and what their entries told: the run goes on from new, with
+-- as much fuel and the same instruction set.
 pub record Answers (w : Setting) (scheme : Scheme) (c : Caller) (old new : Desk) (a : Asked) (action : Action) : Type 0 where
   pub asked : List Asking
   pub told : List Told
   pub makes : Makes c asked told old new
+  pub fuel : new.process.fuel ≡ old.process.fuel
+  pub isa : new.process.state.cpu.isa ≡ old.process.state.cpu.isa
   pub goes : (maps : List ℕ) (units : List (List ℕ)) (requests : List Asking) (start : Process) → Waits w scheme maps units requests start old.process a action →
       Goes w scheme (maps ++ files_told told) (units ++ units_told told) (requests ++ asked) start new.process
 
