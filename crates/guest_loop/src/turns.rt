@@ -1,4 +1,12 @@
 // A guest runs and is answered, until it is at its end.
+ghost use Rattle.std.specs.Prelude.{◌≡◌, ◌<◌, [], true, false, length, Some, IfOk, OnOk};
+ghost use Rattle.registrar.specs.Calls.{AreCovered};
+ghost use Rattle.guest_proc.specs.Kept.{StopsWell, process_of, scheme_of};
+ghost use Rattle.module_laws.specs.Hosted.{IsBare};
+ghost use Rattle.guest_answers.specs.Plan.{Fits, caller_of, setting_of};
+ghost use Rattle.guest_answers.specs.Desk.{IsBuiltBy, IsKept, desk_of};
+ghost use Rattle.guest_loop.specs.Run.{RunsFar, RunsOut, RunsWhole, end_in, is_full};
+
 use block_book::Book;
 use cc_base::Steps;
 use guest_answers::{Desk, Plan, answer_stop, begin, close, make_room};
@@ -15,7 +23,18 @@ pub fn run_whole<B: Book, L: Ledger, R: Registrar>(
     desk: &mut Desk<B>,
     steps: &mut Steps<L>,
     registrar: &mut R,
-) -> Result<End, AllocError> {
+) -> Result<End, AllocError>
+    requires fits { Fits plan.now (caller_of plan.now desk.old.number desk.old.recipe) (R.holder registrar.old).opening }
+    requires built { IsBuiltBy (caller_of plan.now desk.old.number desk.old.recipe) (scheme_of desk.old.guest.at desk.old.guest.limits) (process_of desk.old.guest.at (B.ledger desk.old.guest.book)) }
+    requires known { «module» < length plan.now.modules }
+    requires bare { IsBare (process_of desk.old.guest.at (B.ledger desk.old.guest.book)) }
+    requires covered { AreCovered (R.holder registrar.old).own }
+    requires first { desk.old.guest.entered ≡ false }
+    ensures whole { IfOk result (RunsWhole (setting_of plan.now) (scheme_of desk.old.guest.at desk.old.guest.limits) (caller_of plan.now desk.old.number desk.old.recipe) «module» (desk_of (process_of desk.old.guest.at (B.ledger desk.old.guest.book)) (R.holder registrar.old).own desk.old.ages desk.old.files.items desk.old.marks.items) (desk_of (process_of desk.new.guest.at (B.ledger desk.new.guest.book)) (R.holder registrar.new).own desk.new.ages desk.new.files.items desk.new.marks.items)) }
+    ensures caller { caller_of plan.now desk.new.number desk.new.recipe ≡ caller_of plan.now desk.old.number desk.old.recipe }
+    ensures opening { (R.holder registrar.new).opening ≡ (R.holder registrar.old).opening }
+    ensures scheme { scheme_of desk.new.guest.at desk.new.guest.limits ≡ scheme_of desk.old.guest.at desk.old.guest.limits }
+{
     if !begin(plan, module, desk, registrar)? {
         return Ok(End::Unplaced);
     }
@@ -30,7 +49,18 @@ fn run_out<B: Book, L: Ledger, R: Registrar>(
     desk: &mut Desk<B>,
     steps: &mut Steps<L>,
     registrar: &mut R,
-) -> Result<End, AllocError> {
+) -> Result<End, AllocError>
+    requires fits { Fits plan.now (caller_of plan.now desk.old.number desk.old.recipe) (R.holder registrar.old).opening }
+    requires built { IsBuiltBy (caller_of plan.now desk.old.number desk.old.recipe) (scheme_of desk.old.guest.at desk.old.guest.limits) (process_of desk.old.guest.at (B.ledger desk.old.guest.book)) }
+    requires kept { IsKept plan.now (caller_of plan.now desk.old.number desk.old.recipe) [] (desk_of (process_of desk.old.guest.at (B.ledger desk.old.guest.book)) (R.holder registrar.old).own desk.old.ages desk.old.files.items desk.old.marks.items) }
+    requires run { desk.old.guest.entered ≡ true }
+    ensures out { IfOk result (RunsOut (setting_of plan.now) (scheme_of desk.old.guest.at desk.old.guest.limits) (caller_of plan.now desk.old.number desk.old.recipe) (desk_of (process_of desk.old.guest.at (B.ledger desk.old.guest.book)) (R.holder registrar.old).own desk.old.ages desk.old.files.items desk.old.marks.items) (desk_of (process_of desk.new.guest.at (B.ledger desk.new.guest.book)) (R.holder registrar.new).own desk.new.ages desk.new.files.items desk.new.marks.items)) }
+    ensures kept { OnOk result (IsKept plan.now (caller_of plan.now desk.old.number desk.old.recipe) [] (desk_of (process_of desk.new.guest.at (B.ledger desk.new.guest.book)) (R.holder registrar.new).own desk.new.ages desk.new.files.items desk.new.marks.items)) }
+    ensures built { OnOk result (IsBuiltBy (caller_of plan.now desk.old.number desk.old.recipe) (scheme_of desk.old.guest.at desk.old.guest.limits) (process_of desk.new.guest.at (B.ledger desk.new.guest.book))) }
+    ensures caller { caller_of plan.now desk.new.number desk.new.recipe ≡ caller_of plan.now desk.old.number desk.old.recipe }
+    ensures opening { (R.holder registrar.new).opening ≡ (R.holder registrar.old).opening }
+    ensures scheme { scheme_of desk.new.guest.at desk.new.guest.limits ≡ scheme_of desk.old.guest.at desk.old.guest.limits }
+{
     loop {
         let stop = run_on(plan, desk, steps, registrar)?;
         if let Some(end) = end_in(stop) {
@@ -46,7 +76,20 @@ fn run_on<B: Book, L: Ledger, R: Registrar>(
     desk: &mut Desk<B>,
     steps: &mut Steps<L>,
     registrar: &mut R,
-) -> Result<Stop, AllocError> {
+) -> Result<Stop, AllocError>
+    requires fits { Fits plan.now (caller_of plan.now desk.old.number desk.old.recipe) (R.holder registrar.old).opening }
+    requires built { IsBuiltBy (caller_of plan.now desk.old.number desk.old.recipe) (scheme_of desk.old.guest.at desk.old.guest.limits) (process_of desk.old.guest.at (B.ledger desk.old.guest.book)) }
+    requires kept { IsKept plan.now (caller_of plan.now desk.old.number desk.old.recipe) [] (desk_of (process_of desk.old.guest.at (B.ledger desk.old.guest.book)) (R.holder registrar.old).own desk.old.ages desk.old.files.items desk.old.marks.items) }
+    ensures far { IfOk result (RunsFar (scheme_of desk.old.guest.at desk.old.guest.limits) (caller_of plan.now desk.old.number desk.old.recipe) (desk_of (process_of desk.old.guest.at (B.ledger desk.old.guest.book)) (R.holder registrar.old).own desk.old.ages desk.old.files.items desk.old.marks.items) (desk_of (process_of desk.new.guest.at (B.ledger desk.new.guest.book)) (R.holder registrar.new).own desk.new.ages desk.new.files.items desk.new.marks.items)) }
+    ensures full { IfOk result (λ stop. is_full stop ≡ false) }
+    ensures asks { IfOk result (λ stop. StopsWell (Some stop) desk.new.guest.at.io) }
+    ensures kept { OnOk result (IsKept plan.now (caller_of plan.now desk.old.number desk.old.recipe) [] (desk_of (process_of desk.new.guest.at (B.ledger desk.new.guest.book)) (R.holder registrar.new).own desk.new.ages desk.new.files.items desk.new.marks.items)) }
+    ensures built { OnOk result (IsBuiltBy (caller_of plan.now desk.old.number desk.old.recipe) (scheme_of desk.old.guest.at desk.old.guest.limits) (process_of desk.new.guest.at (B.ledger desk.new.guest.book))) }
+    ensures caller { caller_of plan.now desk.new.number desk.new.recipe ≡ caller_of plan.now desk.old.number desk.old.recipe }
+    ensures opening { (R.holder registrar.new).opening ≡ (R.holder registrar.old).opening }
+    ensures scheme { scheme_of desk.new.guest.at desk.new.guest.limits ≡ scheme_of desk.old.guest.at desk.old.guest.limits }
+    ensures entered { desk.new.guest.entered ≡ desk.old.guest.entered }
+{
     loop {
         let stop = desk.guest.run(steps)?;
         if !is_full(stop) {
