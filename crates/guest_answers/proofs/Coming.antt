@@ -1,5 +1,5 @@
 -- A module comes.
-use Rattle.std.proofs.Common.{◌≡◌, ℕ, zero, suc, ◌+◌, ◌==◌, ◌||◌, nat_lt, Bool, true, false, List, [], ◌∷◌, ◌++◌, length, map, Option, Some, None, Ok, refl, sym, ◌∙◌, ap, subst, arith, inl, inr, append_assoc, eq-eqb}
+use Rattle.std.proofs.Common.{◌≡◌, ℕ, zero, suc, ◌+◌, ◌/◌, ◌<◌, ◌==◌, ◌||◌, nat_lt, Bool, true, false, List, [], ◌∷◌, ◌++◌, length, map, Option, Some, None, Ok, refl, sym, ◌∙◌, ap, subst, arith, inl, inr, append_assoc, eq-eqb}
 use Rattle.std.specs.Prelude.{find, slice_get, is_some}
 use Rattle.std.specs.List.{list_any}
 use Rattle.std.specs.FinMap as fin
@@ -14,11 +14,11 @@ use Rattle.plain_machine.specs.Memory.{AreDisjoint, IsMemory, Memory, code_of, r
 use Rattle.plain_machine.specs.Calls.{is_mapped, is_module, minus}
 use Rattle.plain_machine.specs.Program.{Program, Segment, area_of, base_of, placed, with_segments}
 use Rattle.plain_machine.specs.Machine.{Maps, base_at, with_result}
+use Rattle.block_ledger.specs.Ledger.{segment_of}
 use Rattle.block_ledger.specs.Requests.{Asking, AsksFile, asked_at, unit_asks}
 use Rattle.block_ledger.specs.Traced.{Scheme, codes_at, codes_of}
 use Rattle.registry.specs.Opening.{Opening}
 use Rattle.registry.specs.Registry.{Told}
-use Rattle.registry.specs.History.{is_detach}
 use Rattle.registry.specs.declared.entry.Entry.TheVariants.{Map}
 use Rattle.registrar.specs.Calls.{AreCovered, IsMapped, plain}
 use Rattle.registrar.proofs.Counts.{covered-stays}
@@ -34,10 +34,11 @@ use Rattle.module_laws.specs.Hosted.{AreHosted, ModuleStands}
 use Rattle.module_laws.proofs.Coming.{place-hosts}
 use Rattle.module_laws.proofs.Hosting.{result-hosts}
 use Rattle.guest_answers.specs.Plan.{Plan, Fits, setting_of}
-use Rattle.guest_answers.specs.Desk.{Desk, IsKept, desk_of}
+use Rattle.guest_answers.specs.Desk.{AreUnheld, Desk, IsKept, desk_of}
 use Rattle.guest_answers.specs.Answer.{Answers}
 use Rattle.guest_answers.specs.Makes.{AreApart, AreElsewhere, AttachesAll, Makes, is_in}
 use Rattle.guest_answers.proofs.Holding.{same-holds, still-holds}
+use Rattle.guest_answers.proofs.Evening.{IsQuiet, even-same, even-stays, some-image}
 use Rattle.guest_answers.proofs.Joining.{attached-go-on}
 use Rattle.guest_answers.proofs.Making.{makes-both}
 
@@ -104,12 +105,13 @@ mapped-now program base k f old mid p none = ap (λ (q : Process). find (is_modu
 -- ---- what is kept
 
 -- behind an entry that lets none go
-pub kept-behind : (plan : Plan) (c : Caller) (t : Told) (old new : Desk) → ((slot age : ℕ) → is_detach slot age t.entry ≡ false) → new.own ≡ old.own ++ t ∷ [] → new.ages ≡ old.ages → new.process.ledger ≡ old.process.ledger →
+pub kept-behind : (plan : Plan) (c : Caller) (t : Told) (old new : Desk) → IsQuiet t.entry → new.own ≡ old.own ++ t ∷ [] → new.ages ≡ old.ages → new.process.ledger ≡ old.process.ledger →
     AreHosted (setting_of plan) new.process → IsKept plan c [] old → IsKept plan c [] new
-kept-behind plan c t old new other own ages led hosted kept = record {
+kept-behind plan c t old new quiet own ages led hosted kept = record {
   hosted = hosted;
-  holds = λ j e code image. let h = kept.holds j e code (sym (ap (λ l. image_at l j) led) ∙ image) in still-holds plan c j code t old new h (other h.slot h.age) own (ap (λ m. fin.get m j) ages);
-  covered = subst AreCovered (sym own) (covered-stays old.own t other kept.covered);
+  holds = λ j e code image. let h = kept.holds j e code (sym (ap (λ l. image_at l j) led) ∙ image) in still-holds plan c j code t old new h (quiet.detach h.slot h.age) own (ap (λ m. fin.get m j) ages);
+  covered = subst AreCovered (sym own) (covered-stays old.own t quiet.detach kept.covered);
+  even = even-stays c t old new quiet own ages (λ j. ap (λ l. image_at l j) led) kept.even;
 }
 
 -- the result is put
@@ -118,6 +120,7 @@ kept-result plan c value old new same is kept = record {
   hosted = result-hosts (setting_of plan) old.process new.process value is kept.hosted;
   holds = λ j e code image. same-holds plan c j code old new same (kept.holds j e code (sym (ap (λ (q : Process). image_at q.ledger j) is) ∙ image));
   covered = subst AreCovered (sym (ap (λ (d : Desk). d.own) same)) kept.covered;
+  even = even-same c old new (ap (λ (d : Desk). d.own) same) (ap (λ (d : Desk). d.ages) same) (λ j. ap (λ (q : Process). image_at q.ledger j) is) kept.even;
 }
 
 -- ---- there is no such module
@@ -219,14 +222,41 @@ mapped-answers plan scheme c k f base program file p mid own own2 ages files fil
     }
 
 -- the file stands
-pub place-keeps : (plan : Plan) (c : Caller) (k f base : ℕ) (program : Program) (t : Told) (old new : Desk) → ((slot age : ℕ) → is_detach slot age t.entry ≡ false) → new.own ≡ old.own ++ t ∷ [] → new.ages ≡ old.ages →
+pub place-keeps : (plan : Plan) (c : Caller) (k f base : ℕ) (program : Program) (t : Told) (old new : Desk) → IsQuiet t.entry → new.own ≡ old.own ++ t ∷ [] → new.ages ≡ old.ages →
     base_at (setting_of plan) k ≡ Some base → slice_get plan.elfs f ≡ Some program → is_mapped old.process.state.io k ≡ false → Places program base k f old.process new.process true → IsMemory new.process.state.memory →
     ModuleStands (setting_of plan) k f new.process → IsKept plan c [] old → IsKept plan c [] new
-place-keeps plan c k f base program t old new other own ages at known none places good stands kept =
-    kept-behind plan c t old new other own ages (ap (λ (q : Process). q.ledger) places.2) (place-hosts (setting_of plan) k f base program old.process new.process at known none places good stands kept.hosted) kept
+place-keeps plan c k f base program t old new quiet own ages at known none places good stands kept =
+    kept-behind plan c t old new quiet own ages (ap (λ (q : Process). q.ledger) places.2) (place-hosts (setting_of plan) k f base program old.process new.process at known none places good stands kept.hosted) kept
 
 -- an entry that lets none go, and the result of a call
-pub answer-keeps : (plan : Plan) (c : Caller) (t : Told) (value : ℕ) (old new : Desk) → ((slot age : ℕ) → is_detach slot age t.entry ≡ false) → new.own ≡ old.own ++ t ∷ [] → new.ages ≡ old.ages →
+pub answer-keeps : (plan : Plan) (c : Caller) (t : Told) (value : ℕ) (old new : Desk) → IsQuiet t.entry → new.own ≡ old.own ++ t ∷ [] → new.ages ≡ old.ages →
     new.process ≡ put_to old.process (with_result old.process.state value) old.process.ledger → IsKept plan c [] old → IsKept plan c [] new
-answer-keeps plan c t value old new other own ages becomes kept =
-    kept-behind plan c t old new other own ages (ap (λ (q : Process). q.ledger) becomes) (result-hosts (setting_of plan) old.process new.process value becomes kept.hosted) kept
+answer-keeps plan c t value old new quiet own ages becomes kept =
+    kept-behind plan c t old new quiet own ages (ap (λ (q : Process). q.ledger) becomes) (result-hosts (setting_of plan) old.process new.process value becomes kept.hosted) kept
+
+-- ---- its segments are not attached yet
+
+some_code : {A : Type 0} (o : Option A) → is_some o ≡ true → (x : A) × (o ≡ Some x)
+some_code None e = absurd (cc)
+some_code (Some x) e = (x, refl)
+
+not_found : (ms : List Mapping) (k : ℕ) (m : Mapping) → list_any (is_module k) ms ≡ false → find (is_module k) ms ≡ Some m → ⊥
+not_found [] k m off found = cc
+not_found (x ∷ xs) k m off found =
+    let here : is_module k x ≡ false = or_first (is_module k x) _ off in
+    not_found xs k m (or_second (is_module k x) _ off) (rw here at found)
+
+number_over : (k seg : ℕ) → seg < 4 → segment_of k seg / 4 ≡ k
+number_over k seg h = omega (arith, h)
+
+none_at : (plan : Plan) (c : Caller) (k seg : ℕ) (d : Desk) → seg < 4 → IsKept plan c [] d → is_mapped d.process.state.io k ≡ false → (o : Option ℕ) → fin.get d.ages (segment_of k seg) ≡ o → o ≡ None
+none_at plan c k seg d small kept off None is = refl
+none_at plan c k seg d small kept off (Some age) is =
+    let image = some_code (image_at d.process.ledger (segment_of k seg)) (kept.even.noted (segment_of k seg) age is) in
+    let own = kept.hosted.own (segment_of k seg) image.0 image.1 in
+    let found : find (is_module k) d.process.state.io.mapped ≡ Some own.mapping = ap (λ n. find (is_module n) d.process.state.io.mapped) (sym (number_over k seg small)) ∙ own.mapped in
+    absurd (not_found d.process.state.io.mapped k own.mapping off found)
+
+-- as its module is not mapped
+pub unmapped-unheld : (plan : Plan) (c : Caller) (k : ℕ) (d : Desk) → IsKept plan c [] d → is_mapped d.process.state.io k ≡ false → AreUnheld k d.ages
+unmapped-unheld plan c k d kept off seg small = none_at plan c k seg d small kept off (fin.get d.ages (segment_of k seg)) refl

@@ -1,5 +1,6 @@
 // The units of a module's segments are attached.
-ghost use Rattle.std.specs.Prelude.{◌≡◌, ℕ, List, ◌<◌, ◌≤◌, ◌∷◌, [], true, drop, find, length, slice_get, Some, OnOk, IsErr};
+ghost use Rattle.std.specs.Prelude.{◌≡◌, ℕ, List, ◌<◌, ◌≤◌, ◌∷◌, [], true, drop, find, length, slice_get, Some, None, OnOk, IsErr};
+ghost use Rattle.std.specs.FinMap as fin;
 ghost use Rattle.plain_machine.specs.Calls.{is_module};
 ghost use Rattle.plain_machine.specs.Machine.{base_at};
 ghost use Rattle.plain_machine.specs.Program.{top_of};
@@ -11,7 +12,7 @@ ghost use Rattle.registrar.specs.Calls.{AreCovered};
 ghost use Rattle.guest_proc.specs.Kept.{process_of, scheme_of};
 ghost use Rattle.guest_proc.specs.Maps.{AreClear};
 ghost use Rattle.guest_answers.specs.Plan.{Fits, caller_of, setting_of};
-ghost use Rattle.guest_answers.specs.Desk.{HoldsAt, IsBuiltBy, IsKept, KeepsBut, desk_of};
+ghost use Rattle.guest_answers.specs.Desk.{AreUnheld, HoldsAt, IsBuiltBy, IsKept, KeepsBut, desk_of};
 ghost use Rattle.guest_answers.specs.Makes.{AreApart, AttachesAll, AttachesOne};
 
 use crate::desk::{Desk, mark};
@@ -44,6 +45,7 @@ pub fn attach_all<B: Book, R: Registrar>(
     requires there { AreThere (codes_of elf.now base) desk.old.guest.at.mem }
     requires clear { AreClear (codes_of elf.now base) (B.ledger desk.old.guest.book) }
     requires apart { AreApart (codes_of elf.now base) }
+    requires unheld { AreUnheld «module» desk.old.ages }
     requires mapped { find (is_module «module») (process_of desk.old.guest.at (B.ledger desk.old.guest.book)).state.io.mapped ≡ Some (record { «module» = «module»; file = file }) }
     ensures attaches { OnOk result (AttachesAll (scheme_of desk.old.guest.at desk.old.guest.limits) (caller_of plan.now desk.old.number desk.old.recipe) «module» file (codes_of elf.now base) (desk_of (process_of desk.old.guest.at (B.ledger desk.old.guest.book)) (R.holder registrar.old).own desk.old.ages desk.old.files.items desk.old.marks.items) (desk_of (process_of desk.new.guest.at (B.ledger desk.new.guest.book)) (R.holder registrar.new).own desk.new.ages desk.new.files.items desk.new.marks.items)) }
     ensures kept { OnOk result ((gone : List ℕ) → IsKept plan.now (caller_of plan.now desk.old.number desk.old.recipe) gone (desk_of (process_of desk.old.guest.at (B.ledger desk.old.guest.book)) (R.holder registrar.old).own desk.old.ages desk.old.files.items desk.old.marks.items) → IsKept plan.now (caller_of plan.now desk.old.number desk.old.recipe) gone (desk_of (process_of desk.new.guest.at (B.ledger desk.new.guest.book)) (R.holder registrar.new).own desk.new.ages desk.new.files.items desk.new.marks.items)) }
@@ -78,6 +80,7 @@ pub fn attach_one<B: Book, R: Registrar>(
     requires top { top_of elf.now base ≤ 4294967295 }
     requires there { AreThere (drop seg (codes_of elf.now base)) desk.old.guest.at.mem }
     requires clear { AreClear (drop seg (codes_of elf.now base)) (B.ledger desk.old.guest.book) }
+    requires unheld { fin.get desk.old.ages (segment_of «module» seg) ≡ None }
     requires mapped { find (is_module «module») (process_of desk.old.guest.at (B.ledger desk.old.guest.book)).state.io.mapped ≡ Some (record { «module» = «module»; file = file }) }
     ensures attaches { OnOk result (AttachesOne (scheme_of desk.old.guest.at desk.old.guest.limits) (caller_of plan.now desk.old.number desk.old.recipe) «module» seg file (codes_of elf.now base) (desk_of (process_of desk.old.guest.at (B.ledger desk.old.guest.book)) (R.holder registrar.old).own desk.old.ages desk.old.files.items desk.old.marks.items) (desk_of (process_of desk.new.guest.at (B.ledger desk.new.guest.book)) (R.holder registrar.new).own desk.new.ages desk.new.files.items desk.new.marks.items)) }
     ensures kept { OnOk result (KeepsBut plan.now (caller_of plan.now desk.old.number desk.old.recipe) (segment_of «module» seg ∷ []) (desk_of (process_of desk.old.guest.at (B.ledger desk.old.guest.book)) (R.holder registrar.old).own desk.old.ages desk.old.files.items desk.old.marks.items) (desk_of (process_of desk.new.guest.at (B.ledger desk.new.guest.book)) (R.holder registrar.new).own desk.new.ages desk.new.files.items desk.new.marks.items)) }

@@ -1,10 +1,11 @@
 // The start of a guest.
 ghost use Rattle.std.specs.Prelude.{◌≡◌, ◌<◌, [], true, false, length, IfOk};
-ghost use Rattle.registrar.specs.Calls.{AreCovered};
+ghost use Rattle.std.specs.FinMap as fin;
 ghost use Rattle.guest_proc.specs.Kept.{process_of, scheme_of};
 ghost use Rattle.module_laws.specs.Hosted.{IsBare};
 ghost use Rattle.guest_answers.specs.Plan.{Fits, caller_of};
 ghost use Rattle.guest_answers.specs.Desk.{IsBuiltBy, IsKept, desk_of};
+ghost use Rattle.guest_answers.specs.Entries.{AreEven};
 ghost use Rattle.guest_answers.specs.Begin.{Starts};
 
 use crate::attach::attach_all;
@@ -26,11 +27,13 @@ pub fn begin<B: Book, R: Registrar>(
     requires built { IsBuiltBy (caller_of plan.now desk.old.number desk.old.recipe) (scheme_of desk.old.guest.at desk.old.guest.limits) (process_of desk.old.guest.at (B.ledger desk.old.guest.book)) }
     requires known { number < length plan.now.modules }
     requires bare { IsBare (process_of desk.old.guest.at (B.ledger desk.old.guest.book)) }
-    requires covered { AreCovered (R.holder registrar.old).own }
+    requires even { AreEven (R.holder registrar.old).own }
+    requires none { desk.old.ages ≡ fin.empty }
     requires first { desk.old.guest.entered ≡ false }
     ensures starts { IfOk result (Starts plan.now (scheme_of desk.old.guest.at desk.old.guest.limits) (caller_of plan.now desk.old.number desk.old.recipe) number (desk_of (process_of desk.old.guest.at (B.ledger desk.old.guest.book)) (R.holder registrar.old).own desk.old.ages desk.old.files.items desk.old.marks.items) (desk_of (process_of desk.new.guest.at (B.ledger desk.new.guest.book)) (R.holder registrar.new).own desk.new.ages desk.new.files.items desk.new.marks.items)) }
     ensures kept { IfOk result (λ begun. begun ≡ true → IsKept plan.now (caller_of plan.now desk.old.number desk.old.recipe) [] (desk_of (process_of desk.new.guest.at (B.ledger desk.new.guest.book)) (R.holder registrar.new).own desk.new.ages desk.new.files.items desk.new.marks.items)) }
     ensures entered { IfOk result (λ begun. begun ≡ true → desk.new.guest.entered ≡ true) }
+    ensures even { IfOk result (λ begun. begun ≡ false → AreEven (R.holder registrar.new).own) }
     ensures caller { caller_of plan.now desk.new.number desk.new.recipe ≡ caller_of plan.now desk.old.number desk.old.recipe }
     ensures opening { (R.holder registrar.new).opening ≡ (R.holder registrar.old).opening }
     ensures scheme { scheme_of desk.new.guest.at desk.new.guest.limits ≡ scheme_of desk.old.guest.at desk.old.guest.limits }

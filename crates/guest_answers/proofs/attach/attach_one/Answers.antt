@@ -88,7 +88,7 @@ returns-clause-kept g c =
     on_ok_weaker c.attach-2.result
     (λ becomes. attach-keeps c.args.plan.now (caller_of c.args.plan.now c.args.desk.now.number c.args.desk.now.recipe) c.args.module c.args.seg c.slot_of-slot.result c.args.file c.in_ok-attached.attached.age c.in_ok-attached.attached.version c.args.base c.args.elf.now u.image (blocks_of u.frags) (content_of u)
     (process_of c.args.desk.now.guest.at (g.B.Book.ledger c.args.desk.now.guest.book)) (process_of c.attach-2.new.self.at (g.B.Book.ledger c.attach-2.new.self.book)) (g.R.Registrar.holder c.args.registrar.now).own (g.R.Registrar.holder c.attach.new.self).own c.args.desk.now.ages c.insert.new.self c.args.desk.now.files.items c.args.desk.now.marks.items c.mark.new.marks.items
-    c.requires.seg c.requires.mapped c.requires.stands c.requires.known fits.next (ap (λ (h : Holder). h.own) c.in_ok-attached.ensures.ok) ages becomes)
+    c.requires.seg c.requires.fits.apart c.requires.fits.names its c.requires.unheld c.requires.mapped c.requires.stands c.requires.known fits.next (ap (λ (h : Holder). h.own) c.in_ok-attached.ensures.ok) ages becomes)
     c.attach-2.ensures.attached
 
 pub returns-clause-holds : goal.returns-clause-holds

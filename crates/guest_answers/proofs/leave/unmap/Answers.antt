@@ -39,4 +39,4 @@ pub returns-clause-kept : goal.returns-clause-kept
 returns-clause-kept g c =
     unmap-keeps c.args.plan.now (caller_of c.args.plan.now c.args.desk.now.number c.args.desk.now.recipe) c.args.number c.in-Some.file c.base_of-base.result c.elf_of.result.now c.deref.result.now
     (desk_of (process_of c.args.desk.now.guest.at (g.B.Book.ledger c.args.desk.now.guest.book)) (g.R.Registrar.holder c.args.registrar.now).own c.args.desk.now.ages c.args.desk.now.files.items c.args.desk.now.marks.items) (desk_of (process_of c.part_all.new.desk.guest.at (g.B.Book.ledger c.part_all.new.desk.guest.book)) (g.R.Registrar.holder c.part_all.new.registrar).own c.part_all.new.desk.ages c.part_all.new.desk.files.items c.part_all.new.desk.marks.items) (desk_of (process_of c.answer.new.self.at (g.B.Book.ledger c.answer.new.self.book)) (g.R.Registrar.holder c.part_all.new.registrar).own c.part_all.new.desk.ages c.part_all.new.desk.files.items c.part_all.new.desk.marks.items) (process_of c.unplace.new.self.at (g.B.Book.ledger c.unplace.new.self.book))
-    (sym c.in-Some.is ∙ c.file_of.ensures) c.base_of-base.ensures c.elf_of.ensures (c.deref.ensures.value ∙ c.in_ok-numbers.ensures) c.in_ok-part_all.ensures.parts c.in_ok-part_all.ensures.kept refl c.unplace.ensures.becomes c.answer.ensures.becomes
+    (sym c.in-Some.is ∙ c.file_of.ensures) c.base_of-base.ensures c.elf_of.ensures (c.deref.ensures.value ∙ c.in_ok-numbers.ensures) c.in_ok-part_all.ensures.parts c.in_ok-part_all.ensures.kept c.in_ok-part_all.ensures.let_go refl c.unplace.ensures.becomes c.answer.ensures.becomes
