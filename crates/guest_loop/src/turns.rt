@@ -1,8 +1,9 @@
 // A guest runs and is answered, until it is at its end.
 ghost use Rattle.std.specs.Prelude.{◌≡◌, ◌<◌, [], true, false, length, Some, IfOk, OnOk};
-ghost use Rattle.registrar.specs.Calls.{AreCovered};
+ghost use Rattle.std.specs.FinMap as fin;
 ghost use Rattle.guest_proc.specs.Kept.{StopsWell, process_of, scheme_of};
 ghost use Rattle.module_laws.specs.Hosted.{IsBare};
+ghost use Rattle.guest_answers.specs.Entries.{AreEven};
 ghost use Rattle.guest_answers.specs.Plan.{Fits, caller_of, setting_of};
 ghost use Rattle.guest_answers.specs.Desk.{IsBuiltBy, IsKept, desk_of};
 ghost use Rattle.guest_loop.specs.Run.{RunsFar, RunsOut, RunsWhole, end_in, is_full};
@@ -28,9 +29,11 @@ pub fn run_whole<B: Book, L: Ledger, R: Registrar>(
     requires built { IsBuiltBy (caller_of plan.now desk.old.number desk.old.recipe) (scheme_of desk.old.guest.at desk.old.guest.limits) (process_of desk.old.guest.at (B.ledger desk.old.guest.book)) }
     requires known { «module» < length plan.now.modules }
     requires bare { IsBare (process_of desk.old.guest.at (B.ledger desk.old.guest.book)) }
-    requires covered { AreCovered (R.holder registrar.old).own }
+    requires even { AreEven (R.holder registrar.old).own }
+    requires none { desk.old.ages ≡ fin.empty }
     requires first { desk.old.guest.entered ≡ false }
     ensures whole { IfOk result (RunsWhole (setting_of plan.now) (scheme_of desk.old.guest.at desk.old.guest.limits) (caller_of plan.now desk.old.number desk.old.recipe) «module» (desk_of (process_of desk.old.guest.at (B.ledger desk.old.guest.book)) (R.holder registrar.old).own desk.old.ages desk.old.files.items desk.old.marks.items) (desk_of (process_of desk.new.guest.at (B.ledger desk.new.guest.book)) (R.holder registrar.new).own desk.new.ages desk.new.files.items desk.new.marks.items)) }
+    ensures even { OnOk result (AreEven (R.holder registrar.new).own) }
     ensures caller { caller_of plan.now desk.new.number desk.new.recipe ≡ caller_of plan.now desk.old.number desk.old.recipe }
     ensures opening { (R.holder registrar.new).opening ≡ (R.holder registrar.old).opening }
     ensures scheme { scheme_of desk.new.guest.at desk.new.guest.limits ≡ scheme_of desk.old.guest.at desk.old.guest.limits }

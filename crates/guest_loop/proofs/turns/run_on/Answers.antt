@@ -6,8 +6,9 @@ use Rattle.map_laws.specs.Room.{room_made}
 use Rattle.guest_answers.specs.Plan.{caller_of}
 use Rattle.guest_answers.specs.Desk.{desk_of}
 use Rattle.guest_answers.specs.Makes.{MakesQuietly}
+use Rattle.guest_answers.proofs.Keeping.{run-is-kept}
 use Rattle.guest_answers.proofs.Walking.{fits-now}
-use Rattle.guest_loop.proofs.Turning.{ahead-room, built-at, full-is, isa-keeps, kept-at, not-spent, ran-far, run-keeps, turns-less}
+use Rattle.guest_loop.proofs.Turning.{ahead-room, built-at, full-is, isa-keeps, kept-at, not-spent, ran-far, turns-less}
 use Rattle.guest_loop.proofs.turns.run_on.Goals as goal
 
 pub loop-stop-init : goal.loop-stop-init
@@ -19,7 +20,7 @@ returns-then-not-is_full-clause-far g c =
     c.loop-stop.invariant.ahead (desk_of (process_of c.run.new.self.at (g.B.Book.ledger c.run.new.self.book)) (g.R.Registrar.holder c.loop-stop.registrar).own c.loop-stop.desk.ages c.loop-stop.desk.files.items c.loop-stop.desk.marks.items) c.in_ok-stop.stop (ran-far (scheme_of c.args.desk.now.guest.at c.args.desk.now.guest.limits) (caller_of c.args.plan.now c.args.desk.now.number c.args.desk.now.recipe) (desk_of (process_of c.loop-stop.desk.guest.at (g.B.Book.ledger c.loop-stop.desk.guest.book)) (g.R.Registrar.holder c.loop-stop.registrar).own c.loop-stop.desk.ages c.loop-stop.desk.files.items c.loop-stop.desk.marks.items) (desk_of (process_of c.run.new.self.at (g.B.Book.ledger c.run.new.self.book)) (g.R.Registrar.holder c.loop-stop.registrar).own c.loop-stop.desk.ages c.loop-stop.desk.files.items c.loop-stop.desk.marks.items) c.in_ok-stop.stop refl ran)
 
 pub returns-then-not-is_full-clause-kept : goal.returns-then-not-is_full-clause-kept
-returns-then-not-is_full-clause-kept g c = run-keeps c.args.plan.now (caller_of c.args.plan.now c.args.desk.now.number c.args.desk.now.recipe) [] (desk_of (process_of c.loop-stop.desk.guest.at (g.B.Book.ledger c.loop-stop.desk.guest.book)) (g.R.Registrar.holder c.loop-stop.registrar).own c.loop-stop.desk.ages c.loop-stop.desk.files.items c.loop-stop.desk.marks.items) (desk_of (process_of c.run.new.self.at (g.B.Book.ledger c.run.new.self.book)) (g.R.Registrar.holder c.loop-stop.registrar).own c.loop-stop.desk.ages c.loop-stop.desk.files.items c.loop-stop.desk.marks.items) refl c.in_ok-stop.ensures.keeps c.loop-stop.invariant.kept
+returns-then-not-is_full-clause-kept g c = run-is-kept c.args.plan.now (caller_of c.args.plan.now c.args.desk.now.number c.args.desk.now.recipe) [] (desk_of (process_of c.loop-stop.desk.guest.at (g.B.Book.ledger c.loop-stop.desk.guest.book)) (g.R.Registrar.holder c.loop-stop.registrar).own c.loop-stop.desk.ages c.loop-stop.desk.files.items c.loop-stop.desk.marks.items) (desk_of (process_of c.run.new.self.at (g.B.Book.ledger c.run.new.self.book)) (g.R.Registrar.holder c.loop-stop.registrar).own c.loop-stop.desk.ages c.loop-stop.desk.files.items c.loop-stop.desk.marks.items) c.in_ok-stop.ensures.keeps refl refl c.loop-stop.invariant.kept
 
 pub returns-then-not-is_full-clause-built : goal.returns-then-not-is_full-clause-built
 returns-then-not-is_full-clause-built g c = isa-keeps (caller_of c.args.plan.now c.args.desk.now.number c.args.desk.now.recipe) (scheme_of c.args.desk.now.guest.at c.args.desk.now.guest.limits) (process_of c.loop-stop.desk.guest.at (g.B.Book.ledger c.loop-stop.desk.guest.book)) (process_of c.run.new.self.at (g.B.Book.ledger c.run.new.self.book)) c.in_ok-stop.ensures.keeps.isa c.loop-stop.invariant.built
@@ -28,7 +29,7 @@ pub make_room-requires : goal.make_room-requires
 make_room-requires g c = record {
   fits = fits-now c.args.plan.now (caller_of c.args.plan.now c.args.desk.now.number c.args.desk.now.recipe) (caller_of c.args.plan.now c.loop-stop.desk.number c.loop-stop.desk.recipe) (g.R.Registrar.holder c.args.registrar.now).opening (g.R.Registrar.holder c.loop-stop.registrar).opening c.loop-stop.invariant.caller c.loop-stop.invariant.opening c.requires.fits;
   built = built-at (caller_of c.args.plan.now c.args.desk.now.number c.args.desk.now.recipe) (caller_of c.args.plan.now c.loop-stop.desk.number c.loop-stop.desk.recipe) (scheme_of c.args.desk.now.guest.at c.args.desk.now.guest.limits) (scheme_of c.run.new.self.at c.run.new.self.limits) (process_of c.run.new.self.at (g.B.Book.ledger c.run.new.self.book)) c.loop-stop.invariant.caller (c.run.ensures.scheme ∙ c.loop-stop.invariant.scheme) (isa-keeps (caller_of c.args.plan.now c.args.desk.now.number c.args.desk.now.recipe) (scheme_of c.args.desk.now.guest.at c.args.desk.now.guest.limits) (process_of c.loop-stop.desk.guest.at (g.B.Book.ledger c.loop-stop.desk.guest.book)) (process_of c.run.new.self.at (g.B.Book.ledger c.run.new.self.book)) c.in_ok-stop.ensures.keeps.isa c.loop-stop.invariant.built);
-  kept = kept-at c.args.plan.now (caller_of c.args.plan.now c.args.desk.now.number c.args.desk.now.recipe) (caller_of c.args.plan.now c.loop-stop.desk.number c.loop-stop.desk.recipe) [] (desk_of (process_of c.run.new.self.at (g.B.Book.ledger c.run.new.self.book)) (g.R.Registrar.holder c.loop-stop.registrar).own c.loop-stop.desk.ages c.loop-stop.desk.files.items c.loop-stop.desk.marks.items) c.loop-stop.invariant.caller (run-keeps c.args.plan.now (caller_of c.args.plan.now c.args.desk.now.number c.args.desk.now.recipe) [] (desk_of (process_of c.loop-stop.desk.guest.at (g.B.Book.ledger c.loop-stop.desk.guest.book)) (g.R.Registrar.holder c.loop-stop.registrar).own c.loop-stop.desk.ages c.loop-stop.desk.files.items c.loop-stop.desk.marks.items) (desk_of (process_of c.run.new.self.at (g.B.Book.ledger c.run.new.self.book)) (g.R.Registrar.holder c.loop-stop.registrar).own c.loop-stop.desk.ages c.loop-stop.desk.files.items c.loop-stop.desk.marks.items) refl c.in_ok-stop.ensures.keeps c.loop-stop.invariant.kept);
+  kept = kept-at c.args.plan.now (caller_of c.args.plan.now c.args.desk.now.number c.args.desk.now.recipe) (caller_of c.args.plan.now c.loop-stop.desk.number c.loop-stop.desk.recipe) [] (desk_of (process_of c.run.new.self.at (g.B.Book.ledger c.run.new.self.book)) (g.R.Registrar.holder c.loop-stop.registrar).own c.loop-stop.desk.ages c.loop-stop.desk.files.items c.loop-stop.desk.marks.items) c.loop-stop.invariant.caller (run-is-kept c.args.plan.now (caller_of c.args.plan.now c.args.desk.now.number c.args.desk.now.recipe) [] (desk_of (process_of c.loop-stop.desk.guest.at (g.B.Book.ledger c.loop-stop.desk.guest.book)) (g.R.Registrar.holder c.loop-stop.registrar).own c.loop-stop.desk.ages c.loop-stop.desk.files.items c.loop-stop.desk.marks.items) (desk_of (process_of c.run.new.self.at (g.B.Book.ledger c.run.new.self.book)) (g.R.Registrar.holder c.loop-stop.registrar).own c.loop-stop.desk.ages c.loop-stop.desk.files.items c.loop-stop.desk.marks.items) c.in_ok-stop.ensures.keeps refl refl c.loop-stop.invariant.kept);
 }
 
 pub loop-stop-smaller : goal.loop-stop-smaller

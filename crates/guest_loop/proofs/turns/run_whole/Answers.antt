@@ -17,6 +17,9 @@ returns-then-not-branch-clause-whole g c =
     let refused : CannotBegin c.args.plan.now (caller_of c.args.plan.now c.args.desk.now.number c.args.desk.now.recipe) c.args.module (desk_of (process_of c.args.desk.now.guest.at (g.B.Book.ledger c.args.desk.now.guest.book)) (g.R.Registrar.holder c.args.registrar.now).own c.args.desk.now.ages c.args.desk.now.files.items c.args.desk.now.marks.items) (desk_of (process_of c.begin.new.desk.guest.at (g.B.Book.ledger c.begin.new.desk.guest.book)) (g.R.Registrar.holder c.begin.new.registrar).own c.begin.new.desk.ages c.begin.new.desk.files.items c.begin.new.desk.marks.items) = subst (Starts c.args.plan.now (scheme_of c.args.desk.now.guest.at c.args.desk.now.guest.limits) (caller_of c.args.plan.now c.args.desk.now.number c.args.desk.now.recipe) c.args.module (desk_of (process_of c.args.desk.now.guest.at (g.B.Book.ledger c.args.desk.now.guest.book)) (g.R.Registrar.holder c.args.registrar.now).own c.args.desk.now.ages c.args.desk.now.files.items c.args.desk.now.marks.items) (desk_of (process_of c.begin.new.desk.guest.at (g.B.Book.ledger c.begin.new.desk.guest.book)) (g.R.Registrar.holder c.begin.new.registrar).own c.begin.new.desk.ages c.begin.new.desk.files.items c.begin.new.desk.marks.items)) c.if-not-branch.true c.in_ok-begin.ensures.starts in
     unplaced-whole c.args.plan.now (scheme_of c.args.desk.now.guest.at c.args.desk.now.guest.limits) (caller_of c.args.plan.now c.args.desk.now.number c.args.desk.now.recipe) c.args.module (desk_of (process_of c.args.desk.now.guest.at (g.B.Book.ledger c.args.desk.now.guest.book)) (g.R.Registrar.holder c.args.registrar.now).own c.args.desk.now.ages c.args.desk.now.files.items c.args.desk.now.marks.items) (desk_of (process_of c.begin.new.desk.guest.at (g.B.Book.ledger c.begin.new.desk.guest.book)) (g.R.Registrar.holder c.begin.new.registrar).own c.begin.new.desk.ages c.begin.new.desk.files.items c.begin.new.desk.marks.items) refused
 
+pub returns-then-not-branch-clause-even : goal.returns-then-not-branch-clause-even
+returns-then-not-branch-clause-even g c = c.in_ok-begin.ensures.even c.if-not-branch.true
+
 pub run_out-requires : goal.run_out-requires
 run_out-requires g c =
     let begins : Begins c.args.plan.now (scheme_of c.args.desk.now.guest.at c.args.desk.now.guest.limits) (caller_of c.args.plan.now c.args.desk.now.number c.args.desk.now.recipe) c.args.module (desk_of (process_of c.args.desk.now.guest.at (g.B.Book.ledger c.args.desk.now.guest.book)) (g.R.Registrar.holder c.args.registrar.now).own c.args.desk.now.ages c.args.desk.now.files.items c.args.desk.now.marks.items) (desk_of (process_of c.begin.new.desk.guest.at (g.B.Book.ledger c.begin.new.desk.guest.book)) (g.R.Registrar.holder c.begin.new.registrar).own c.begin.new.desk.ages c.begin.new.desk.files.items c.begin.new.desk.marks.items) = subst (Starts c.args.plan.now (scheme_of c.args.desk.now.guest.at c.args.desk.now.guest.limits) (caller_of c.args.plan.now c.args.desk.now.number c.args.desk.now.recipe) c.args.module (desk_of (process_of c.args.desk.now.guest.at (g.B.Book.ledger c.args.desk.now.guest.book)) (g.R.Registrar.holder c.args.registrar.now).own c.args.desk.now.ages c.args.desk.now.files.items c.args.desk.now.marks.items) (desk_of (process_of c.begin.new.desk.guest.at (g.B.Book.ledger c.begin.new.desk.guest.book)) (g.R.Registrar.holder c.begin.new.registrar).own c.begin.new.desk.ages c.begin.new.desk.files.items c.begin.new.desk.marks.items)) c.if-not-branch.false c.in_ok-begin.ensures.starts in
