@@ -14,6 +14,7 @@ ghost use Rattle.guest_proc.specs.Maps.{AreClear};
 ghost use Rattle.guest_answers.specs.Plan.{Fits, caller_of, setting_of};
 ghost use Rattle.guest_answers.specs.Desk.{AreUnheld, HoldsAt, IsBuiltBy, IsKept, KeepsBut, desk_of};
 ghost use Rattle.guest_answers.specs.Makes.{AreApart, AttachesAll, AttachesOne};
+ghost use Rattle.guest_answers.specs.Entries.{Grows};
 
 use crate::desk::{Desk, mark};
 use crate::offer::slot_of;
@@ -51,6 +52,7 @@ pub fn attach_all<B: Book, R: Registrar>(
     ensures kept { OnOk result ((gone : List ℕ) → IsKept plan.now (caller_of plan.now desk.old.number desk.old.recipe) gone (desk_of (process_of desk.old.guest.at (B.ledger desk.old.guest.book)) (R.holder registrar.old).own desk.old.ages desk.old.files.items desk.old.marks.items) → IsKept plan.now (caller_of plan.now desk.old.number desk.old.recipe) gone (desk_of (process_of desk.new.guest.at (B.ledger desk.new.guest.book)) (R.holder registrar.new).own desk.new.ages desk.new.files.items desk.new.marks.items)) }
     ensures caller { caller_of plan.now desk.new.number desk.new.recipe ≡ caller_of plan.now desk.old.number desk.old.recipe }
     ensures opening { (R.holder registrar.new).opening ≡ (R.holder registrar.old).opening }
+    ensures grows { Grows desk.old.number (R.holder registrar.old) (R.holder registrar.new) }
     ensures scheme { scheme_of desk.new.guest.at desk.new.guest.limits ≡ scheme_of desk.old.guest.at desk.old.guest.limits }
     ensures entered { desk.new.guest.entered ≡ desk.old.guest.entered }
 {
@@ -87,6 +89,7 @@ pub fn attach_one<B: Book, R: Registrar>(
     ensures holds { AreCovered (R.holder registrar.old).own → OnOk result (HoldsAt plan.now (caller_of plan.now desk.old.number desk.old.recipe) (segment_of «module» seg) (desk_of (process_of desk.new.guest.at (B.ledger desk.new.guest.book)) (R.holder registrar.new).own desk.new.ages desk.new.files.items desk.new.marks.items)) }
     ensures caller { caller_of plan.now desk.new.number desk.new.recipe ≡ caller_of plan.now desk.old.number desk.old.recipe }
     ensures opening { (R.holder registrar.new).opening ≡ (R.holder registrar.old).opening }
+    ensures grows { Grows desk.old.number (R.holder registrar.old) (R.holder registrar.new) }
     ensures scheme { scheme_of desk.new.guest.at desk.new.guest.limits ≡ scheme_of desk.old.guest.at desk.old.guest.limits }
     ensures entered { desk.new.guest.entered ≡ desk.old.guest.entered }
     ensures after { desk.old.guest.spent ≡ true → IsErr result }

@@ -8,6 +8,7 @@ ghost use Rattle.guest_proc.specs.Kept.{process_of, scheme_of};
 ghost use Rattle.guest_answers.specs.Plan.{Fits, caller_of, setting_of};
 ghost use Rattle.guest_answers.specs.Desk.{IsBuiltBy, IsKept, desk_of};
 ghost use Rattle.guest_answers.specs.Answer.{Answers};
+ghost use Rattle.guest_answers.specs.Entries.{Grows};
 
 use crate::desk::Desk;
 use crate::part::part_all;
@@ -33,6 +34,7 @@ pub fn unmap<B: Book, R: Registrar>(
     ensures kept { OnOk result (IsKept plan.now (caller_of plan.now desk.old.number desk.old.recipe) [] (desk_of (process_of desk.new.guest.at (B.ledger desk.new.guest.book)) (R.holder registrar.new).own desk.new.ages desk.new.files.items desk.new.marks.items)) }
     ensures caller { caller_of plan.now desk.new.number desk.new.recipe ≡ caller_of plan.now desk.old.number desk.old.recipe }
     ensures opening { (R.holder registrar.new).opening ≡ (R.holder registrar.old).opening }
+    ensures grows { Grows desk.old.number (R.holder registrar.old) (R.holder registrar.new) }
     ensures scheme { scheme_of desk.new.guest.at desk.new.guest.limits ≡ scheme_of desk.old.guest.at desk.old.guest.limits }
     ensures entered { desk.new.guest.entered ≡ desk.old.guest.entered }
 {

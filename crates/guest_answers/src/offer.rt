@@ -12,6 +12,7 @@ ghost use Rattle.guest_proc.specs.Kept.{image_at, process_of, scheme_of};
 ghost use Rattle.guest_answers.specs.Plan.{Fits, caller_of};
 ghost use Rattle.guest_answers.specs.Desk.{Holds, HoldsAt, IsBuiltBy, KeepsBut, MayHandIn, desk_of};
 ghost use Rattle.guest_answers.specs.Makes.{MakesQuietly, OffersOne, PartsOne};
+ghost use Rattle.guest_answers.specs.Entries.{Grows};
 
 use crate::desk::{Desk, mark};
 use crate::plan::Plan;
@@ -51,6 +52,7 @@ fn hand_in<B: Book, R: Registrar>(
     ensures ages { desk.new.ages ≡ desk.old.ages }
     ensures caller { caller_of plan.now desk.new.number desk.new.recipe ≡ caller_of plan.now desk.old.number desk.old.recipe }
     ensures opening { (R.holder registrar.new).opening ≡ (R.holder registrar.old).opening }
+    ensures grows { Grows desk.old.number (R.holder registrar.old) (R.holder registrar.new) }
     ensures scheme { scheme_of desk.new.guest.at desk.new.guest.limits ≡ scheme_of desk.old.guest.at desk.old.guest.limits }
     ensures entered { desk.new.guest.entered ≡ desk.old.guest.entered }
 {
@@ -82,6 +84,7 @@ pub fn offer_one<B: Book, R: Registrar>(
     ensures ages { desk.new.ages ≡ desk.old.ages }
     ensures caller { caller_of plan.now desk.new.number desk.new.recipe ≡ caller_of plan.now desk.old.number desk.old.recipe }
     ensures opening { (R.holder registrar.new).opening ≡ (R.holder registrar.old).opening }
+    ensures grows { Grows desk.old.number (R.holder registrar.old) (R.holder registrar.new) }
     ensures scheme { scheme_of desk.new.guest.at desk.new.guest.limits ≡ scheme_of desk.old.guest.at desk.old.guest.limits }
     ensures entered { desk.new.guest.entered ≡ desk.old.guest.entered }
     ensures after { desk.old.guest.spent ≡ true → IsErr result }
@@ -106,6 +109,7 @@ pub fn part_one<B: Book, R: Registrar>(
     ensures ages { OnOk result (desk.new.ages ≡ fin.remove desk.old.ages number) }
     ensures caller { caller_of plan.now desk.new.number desk.new.recipe ≡ caller_of plan.now desk.old.number desk.old.recipe }
     ensures opening { (R.holder registrar.new).opening ≡ (R.holder registrar.old).opening }
+    ensures grows { Grows desk.old.number (R.holder registrar.old) (R.holder registrar.new) }
     ensures scheme { scheme_of desk.new.guest.at desk.new.guest.limits ≡ scheme_of desk.old.guest.at desk.old.guest.limits }
     ensures entered { desk.new.guest.entered ≡ desk.old.guest.entered }
     ensures after { desk.old.guest.spent ≡ true → IsErr result }
@@ -129,6 +133,7 @@ fn let_go<B: Book, R: Registrar>(
     ensures ages { OnOk result (desk.new.ages ≡ fin.remove desk.old.ages number) }
     ensures caller { caller_of plan.now desk.new.number desk.new.recipe ≡ caller_of plan.now desk.old.number desk.old.recipe }
     ensures opening { (R.holder registrar.new).opening ≡ (R.holder registrar.old).opening }
+    ensures grows { Grows desk.old.number (R.holder registrar.old) (R.holder registrar.new) }
     ensures scheme { scheme_of desk.new.guest.at desk.new.guest.limits ≡ scheme_of desk.old.guest.at desk.old.guest.limits }
     ensures entered { desk.new.guest.entered ≡ desk.old.guest.entered }
 {

@@ -5,7 +5,7 @@ ghost use Rattle.unit_set.specs.Sets.{has};
 ghost use Rattle.guest_proc.specs.Kept.{process_of, scheme_of};
 ghost use Rattle.guest_answers.specs.Plan.{Fits, caller_of};
 ghost use Rattle.guest_answers.specs.Desk.{IsBuiltBy, IsKept, desk_of};
-ghost use Rattle.guest_answers.specs.Entries.{AreEven};
+ghost use Rattle.guest_answers.specs.Entries.{AreEven, Grows};
 ghost use Rattle.guest_answers.specs.Room.{AreAttached, AreOnce, PartsAll};
 
 use crate::desk::Desk;
@@ -29,6 +29,7 @@ pub fn close<B: Book, R: Registrar>(
     ensures even { OnOk result (AreEven (R.holder registrar.new).own) }
     ensures caller { caller_of plan.now desk.new.number desk.new.recipe ≡ caller_of plan.now desk.old.number desk.old.recipe }
     ensures opening { (R.holder registrar.new).opening ≡ (R.holder registrar.old).opening }
+    ensures grows { Grows desk.old.number (R.holder registrar.old) (R.holder registrar.new) }
     ensures scheme { scheme_of desk.new.guest.at desk.new.guest.limits ≡ scheme_of desk.old.guest.at desk.old.guest.limits }
     ensures entered { desk.new.guest.entered ≡ desk.old.guest.entered }
 {
@@ -53,6 +54,7 @@ pub fn part_all<B: Book, R: Registrar>(
     ensures let_go { OnOk result ((i : ℕ) → has i numbers.now ≡ true → fin.get desk.new.ages i ≡ None) }
     ensures caller { caller_of plan.now desk.new.number desk.new.recipe ≡ caller_of plan.now desk.old.number desk.old.recipe }
     ensures opening { (R.holder registrar.new).opening ≡ (R.holder registrar.old).opening }
+    ensures grows { Grows desk.old.number (R.holder registrar.old) (R.holder registrar.new) }
     ensures scheme { scheme_of desk.new.guest.at desk.new.guest.limits ≡ scheme_of desk.old.guest.at desk.old.guest.limits }
     ensures entered { desk.new.guest.entered ≡ desk.old.guest.entered }
 {

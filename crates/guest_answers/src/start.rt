@@ -5,7 +5,7 @@ ghost use Rattle.guest_proc.specs.Kept.{process_of, scheme_of};
 ghost use Rattle.module_laws.specs.Hosted.{IsBare};
 ghost use Rattle.guest_answers.specs.Plan.{Fits, caller_of};
 ghost use Rattle.guest_answers.specs.Desk.{IsBuiltBy, IsKept, desk_of};
-ghost use Rattle.guest_answers.specs.Entries.{AreEven};
+ghost use Rattle.guest_answers.specs.Entries.{AreEven, Grows};
 ghost use Rattle.guest_answers.specs.Begin.{Starts};
 
 use crate::attach::attach_all;
@@ -36,6 +36,7 @@ pub fn begin<B: Book, R: Registrar>(
     ensures even { IfOk result (λ begun. begun ≡ false → AreEven (R.holder registrar.new).own) }
     ensures caller { caller_of plan.now desk.new.number desk.new.recipe ≡ caller_of plan.now desk.old.number desk.old.recipe }
     ensures opening { (R.holder registrar.new).opening ≡ (R.holder registrar.old).opening }
+    ensures grows { Grows desk.old.number (R.holder registrar.old) (R.holder registrar.new) }
     ensures scheme { scheme_of desk.new.guest.at desk.new.guest.limits ≡ scheme_of desk.old.guest.at desk.old.guest.limits }
 {
     mark(&desk.guest, &mut desk.marks)?;

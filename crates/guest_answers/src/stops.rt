@@ -4,6 +4,7 @@ ghost use Rattle.guest_proc.specs.Kept.{StopsWell, process_of, scheme_of};
 ghost use Rattle.guest_answers.specs.Plan.{Fits, caller_of, setting_of};
 ghost use Rattle.guest_answers.specs.Desk.{IsBuiltBy, IsKept, desk_of};
 ghost use Rattle.guest_answers.specs.Answer.{RepliesTo, is_call};
+ghost use Rattle.guest_answers.specs.Entries.{Grows};
 
 use crate::answer::replace;
 use crate::come::map;
@@ -33,6 +34,7 @@ pub fn answer_stop<B: Book, R: Registrar>(
     ensures kept { OnOk result (IsKept plan.now (caller_of plan.now desk.old.number desk.old.recipe) [] (desk_of (process_of desk.new.guest.at (B.ledger desk.new.guest.book)) (R.holder registrar.new).own desk.new.ages desk.new.files.items desk.new.marks.items)) }
     ensures caller { caller_of plan.now desk.new.number desk.new.recipe ≡ caller_of plan.now desk.old.number desk.old.recipe }
     ensures opening { (R.holder registrar.new).opening ≡ (R.holder registrar.old).opening }
+    ensures grows { Grows desk.old.number (R.holder registrar.old) (R.holder registrar.new) }
     ensures scheme { scheme_of desk.new.guest.at desk.new.guest.limits ≡ scheme_of desk.old.guest.at desk.old.guest.limits }
     ensures entered { OnOk result (desk.new.guest.entered ≡ true) }
 {

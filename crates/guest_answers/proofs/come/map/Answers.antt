@@ -9,6 +9,7 @@ use Rattle.guest_proc.specs.Process.{Process}
 use Rattle.guest_answers.specs.Plan.{caller_of}
 use Rattle.guest_answers.specs.Desk.{IsKept, desk_of}
 use Rattle.guest_answers.specs.Makes.{AttachesAll}
+use Rattle.guest_answers.proofs.Growing.{grows-behind}
 use Rattle.guest_answers.proofs.Coming.{answer-keeps, apart-now, kept-result, mapped-answers, mapped-now, place-keeps, refused-answers, unknown-answers, unmapped-unheld}
 use Rattle.guest_answers.proofs.Evening.{map-quiet}
 use Rattle.guest_answers.proofs.come.map.Goals as goal
@@ -64,3 +65,8 @@ returns-clause-kept g c =
     (map-quiet c.args.desk.now.number c.args.number c.in_ok-file.field-0) (ap (λ (h : Holder). h.own) c.in_ok-file.ensures.ok) refl c.base_of-base.ensures c.elf_of-elf.ensures c.requires.asks places c.kept.ensures.memory
     (record { base = c.base_of-base.result; program = c.elf_of-elf.result.now; stands = c.base_of-base.ensures; known = c.elf_of-elf.ensures; top = c.in_ok-place.ensures.top c.if-not-branch.false; stand = c.in_ok-place.ensures.stand c.if-not-branch.false }) c.requires.kept in
     kept-result c.args.plan.now (caller_of c.args.plan.now c.args.desk.now.number c.args.desk.now.recipe) 0 (desk_of (process_of c.attach_all.new.desk.guest.at (g.B.Book.ledger c.attach_all.new.desk.guest.book)) (g.R.Registrar.holder c.attach_all.new.registrar).own c.attach_all.new.desk.ages c.attach_all.new.desk.files.items c.attach_all.new.desk.marks.items) (desk_of (process_of c.answer-2.new.self.at (g.B.Book.ledger c.answer-2.new.self.book)) (g.R.Registrar.holder c.attach_all.new.registrar).own c.attach_all.new.desk.ages c.attach_all.new.desk.files.items c.attach_all.new.desk.marks.items) refl c.answer-2.ensures.becomes (c.in_ok-attach_all.ensures.kept [] placed)
+
+pub returns-clause-grows : goal.returns-clause-grows
+returns-clause-grows g c =
+    grows-behind c.args.desk.now.number (plain (Map c.args.desk.now.number c.args.number c.in_ok-file.field-0)) (g.R.Registrar.holder c.args.registrar.now) (g.R.Registrar.holder c.map.new.self) (g.R.Registrar.holder c.attach_all.new.registrar)
+    refl c.in_ok-file.ensures.ok c.attach_all.ensures.grows

@@ -7,6 +7,7 @@ use Rattle.guest_proc.specs.Maps.{Enters}
 use Rattle.guest_answers.specs.Plan.{caller_of}
 use Rattle.guest_answers.specs.Desk.{IsKept, desk_of}
 use Rattle.guest_answers.specs.Makes.{AttachesAll}
+use Rattle.guest_answers.proofs.Growing.{grows-behind}
 use Rattle.guest_answers.proofs.Starting.{begins-now, cannot-begin, entered-apart, entered-kept, entered-mapped, has-file-told, none-unheld, refused-even}
 use Rattle.guest_answers.proofs.Evening.{map-quiet}
 use Rattle.guest_answers.proofs.start.begin.Goals as goal
@@ -51,3 +52,8 @@ returns-clause-kept g c =
     entered-kept c.args.plan.now (caller_of c.args.plan.now c.args.desk.now.number c.args.desk.now.recipe) c.args.number c.in-Some.file c.base_of-base.result c.elf_of-elf.result.now (plain (Map c.args.desk.now.number c.args.number c.in_ok-file.field-0)) (process_of c.args.desk.now.guest.at (g.B.Book.ledger c.args.desk.now.guest.book)) (g.R.Registrar.holder c.args.registrar.now).own (desk_of (process_of c.place.new.self.at (g.B.Book.ledger c.place.new.self.book)) (g.R.Registrar.holder c.map.new.self).own c.args.desk.now.ages c.push.new.self.items c.mark.new.marks.items)
     (map-quiet c.args.desk.now.number c.args.number c.in_ok-file.field-0) (ap (λ (h : Holder). h.own) c.in_ok-file.ensures.ok) c.requires.bare c.requires.none c.requires.even enters (record { base = c.base_of-base.result; program = c.elf_of-elf.result.now; stands = c.base_of-base.ensures; known = c.elf_of-elf.ensures; top = c.in_ok-place.ensures.top c.if-not-branch.false; stand = c.in_ok-place.ensures.stand c.if-not-branch.false }) in
     λ _. c.in_ok-attach_all.ensures.kept [] placed
+
+pub returns-clause-grows : goal.returns-clause-grows
+returns-clause-grows g c =
+    grows-behind c.args.desk.now.number (plain (Map c.args.desk.now.number c.args.number c.in_ok-file.field-0)) (g.R.Registrar.holder c.args.registrar.now) (g.R.Registrar.holder c.map.new.self) (g.R.Registrar.holder c.attach_all.new.registrar)
+    refl c.in_ok-file.ensures.ok c.attach_all.ensures.grows
