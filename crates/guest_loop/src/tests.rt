@@ -108,6 +108,7 @@ fn file(alloc: Global, kind: u8, vaddr: u32, words: &[u32]) -> Result<Elf, Fail>
 }
 
 // Some guests, and what they are lent.
+#[derive(Drop)]
 struct Host {
     alloc: Global,
     manifest: Manifest,
@@ -272,7 +273,7 @@ fn a_countdown_runs_over_three_blocks(rt: HostRuntime) -> Result<(), Fail> {
     // The next guest takes all blocks from the unit.
     let again = run(&mut host, 1)?.end;
     assert_eq!(rt; again.end, End::Exit(0));
-    assert_eq!(rt; counts(again.counts), [1001, 1001, 0, 997]);
+    assert_eq!(rt; counts(again.counts), [1001, 1001, 0, 1000]);
     assert_eq!(rt; again.legs.as_slice(), [0, 0, 1001, 0].as_slice());
     Ok(())
 }

@@ -3,7 +3,7 @@ ghost use Rattle.std.specs.Prelude.{◌≡◌, ◌<◌, [], true, false, length,
 ghost use Rattle.std.specs.FinMap as fin;
 ghost use Rattle.guest_proc.specs.Kept.{StopsWell, process_of, scheme_of};
 ghost use Rattle.module_laws.specs.Hosted.{IsBare};
-ghost use Rattle.guest_answers.specs.Entries.{AreEven};
+ghost use Rattle.guest_answers.specs.Entries.{AreEven, Grows};
 ghost use Rattle.guest_answers.specs.Plan.{Fits, caller_of, setting_of};
 ghost use Rattle.guest_answers.specs.Desk.{IsBuiltBy, IsKept, desk_of};
 ghost use Rattle.guest_loop.specs.Run.{RunsFar, RunsOut, RunsWhole, end_in, is_full};
@@ -37,6 +37,7 @@ pub fn run_whole<B: Book, L: Ledger, R: Registrar>(
     ensures caller { caller_of plan.now desk.new.number desk.new.recipe ≡ caller_of plan.now desk.old.number desk.old.recipe }
     ensures opening { (R.holder registrar.new).opening ≡ (R.holder registrar.old).opening }
     ensures scheme { scheme_of desk.new.guest.at desk.new.guest.limits ≡ scheme_of desk.old.guest.at desk.old.guest.limits }
+    ensures grows { Grows desk.old.number (R.holder registrar.old) (R.holder registrar.new) }
 {
     if !begin(plan, module, desk, registrar)? {
         return Ok(End::Unplaced);
@@ -63,6 +64,7 @@ fn run_out<B: Book, L: Ledger, R: Registrar>(
     ensures caller { caller_of plan.now desk.new.number desk.new.recipe ≡ caller_of plan.now desk.old.number desk.old.recipe }
     ensures opening { (R.holder registrar.new).opening ≡ (R.holder registrar.old).opening }
     ensures scheme { scheme_of desk.new.guest.at desk.new.guest.limits ≡ scheme_of desk.old.guest.at desk.old.guest.limits }
+    ensures grows { Grows desk.old.number (R.holder registrar.old) (R.holder registrar.new) }
 {
     loop {
         let stop = run_on(plan, desk, steps, registrar)?;
@@ -92,6 +94,7 @@ fn run_on<B: Book, L: Ledger, R: Registrar>(
     ensures opening { (R.holder registrar.new).opening ≡ (R.holder registrar.old).opening }
     ensures scheme { scheme_of desk.new.guest.at desk.new.guest.limits ≡ scheme_of desk.old.guest.at desk.old.guest.limits }
     ensures entered { desk.new.guest.entered ≡ desk.old.guest.entered }
+    ensures grows { Grows desk.old.number (R.holder registrar.old) (R.holder registrar.new) }
 {
     loop {
         let stop = desk.guest.run(steps)?;

@@ -6,6 +6,7 @@ use Rattle.guest_answers.specs.Plan.{caller_of, setting_of}
 use Rattle.guest_answers.specs.Desk.{desk_of}
 use Rattle.guest_answers.specs.Begin.{Begins, CannotBegin, Starts}
 use Rattle.guest_answers.specs.Room.{PartsAll}
+use Rattle.guest_answers.proofs.Growing.{grows-on}
 use Rattle.guest_answers.proofs.Walking.{fits-now}
 use Rattle.guest_loop.specs.Run.{RunsOut}
 use Rattle.guest_loop.proofs.Ending.{begun-isa, unplaced-whole, whole-from}
@@ -29,6 +30,15 @@ run_out-requires g c =
       kept = kept-at c.args.plan.now (caller_of c.args.plan.now c.args.desk.now.number c.args.desk.now.recipe) (caller_of c.args.plan.now c.begin.new.desk.number c.begin.new.desk.recipe) [] (desk_of (process_of c.begin.new.desk.guest.at (g.B.Book.ledger c.begin.new.desk.guest.book)) (g.R.Registrar.holder c.begin.new.registrar).own c.begin.new.desk.ages c.begin.new.desk.files.items c.begin.new.desk.marks.items) c.begin.ensures.caller (c.in_ok-begin.ensures.kept c.if-not-branch.false);
       run = c.in_ok-begin.ensures.entered c.if-not-branch.false;
     }
+
+pub returns-in_err-end-clause-grows : goal.returns-in_err-end-clause-grows
+returns-in_err-end-clause-grows g c = grows-on (caller_of c.args.plan.now c.args.desk.now.number c.args.desk.now.recipe) (caller_of c.args.plan.now c.begin.new.desk.number c.begin.new.desk.recipe) (g.R.Registrar.holder c.args.registrar.now) (g.R.Registrar.holder c.begin.new.registrar) (g.R.Registrar.holder c.run_out.new.registrar) c.begin.ensures.caller c.begin.ensures.grows c.run_out.ensures.grows
+
+pub returns-in_err-close-clause-grows : goal.returns-in_err-close-clause-grows
+returns-in_err-close-clause-grows g c = grows-on (caller_of c.args.plan.now c.args.desk.now.number c.args.desk.now.recipe) (caller_of c.args.plan.now c.run_out.new.desk.number c.run_out.new.desk.recipe) (g.R.Registrar.holder c.args.registrar.now) (g.R.Registrar.holder c.run_out.new.registrar) (g.R.Registrar.holder c.close.new.registrar) (c.run_out.ensures.caller ∙ c.begin.ensures.caller) (grows-on (caller_of c.args.plan.now c.args.desk.now.number c.args.desk.now.recipe) (caller_of c.args.plan.now c.begin.new.desk.number c.begin.new.desk.recipe) (g.R.Registrar.holder c.args.registrar.now) (g.R.Registrar.holder c.begin.new.registrar) (g.R.Registrar.holder c.run_out.new.registrar) c.begin.ensures.caller c.begin.ensures.grows c.run_out.ensures.grows) c.close.ensures.grows
+
+pub returns-clause-grows : goal.returns-clause-grows
+returns-clause-grows g c = grows-on (caller_of c.args.plan.now c.args.desk.now.number c.args.desk.now.recipe) (caller_of c.args.plan.now c.run_out.new.desk.number c.run_out.new.desk.recipe) (g.R.Registrar.holder c.args.registrar.now) (g.R.Registrar.holder c.run_out.new.registrar) (g.R.Registrar.holder c.close.new.registrar) (c.run_out.ensures.caller ∙ c.begin.ensures.caller) (grows-on (caller_of c.args.plan.now c.args.desk.now.number c.args.desk.now.recipe) (caller_of c.args.plan.now c.begin.new.desk.number c.begin.new.desk.recipe) (g.R.Registrar.holder c.args.registrar.now) (g.R.Registrar.holder c.begin.new.registrar) (g.R.Registrar.holder c.run_out.new.registrar) c.begin.ensures.caller c.begin.ensures.grows c.run_out.ensures.grows) c.close.ensures.grows
 
 pub close-requires : goal.close-requires
 close-requires g c = record {
