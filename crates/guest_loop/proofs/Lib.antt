@@ -1,0 +1,4 @@
+pub mod Turning
+pub mod Answered
+pub mod Ending
+pub mod Telling
