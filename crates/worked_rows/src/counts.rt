@@ -224,6 +224,50 @@ fn a_full_pool_is_flushed_and_published_whole(rt: HostRuntime) -> Result<(), Fai
     holds(&rt, alloc, &mut shelf, SLOT, &addrs)
 }
 
+// What is printed of a guest that runs past its last word.
+const PAST_THE_END: &str = "guest g1 fault fetch 00020004\noutput 0\n\nreport calls 0\n";
+
+const FILLED: &str = "journal 7
+map g1 0 0
+attach g1 main.0.00000000.calls.16 0 0 0
+merge g1 main.0.00000000.calls.16 0 16384 version 1
+detach g1 main.0.00000000.calls.16 0
+finish
+due main.0.00000000.calls.16 0 1
+acked main.0.00000000.calls.16 0 1
+";
+
+const FULL: &str = "journal 5
+map g1 0 0
+attach g1 main.0.00000000.calls.16 0 0 0
+merge g1 main.0.00000000.calls.16 0 1 full 16385
+detach g1 main.0.00000000.calls.16 0
+finish
+";
+
+// 16,385 times JAL x0, 4: a block begins at each word, and a unit has no room for the last one.
+#[test]
+fn a_full_unit_takes_no_more(rt: HostRuntime) -> Result<(), Fail> {
+    let alloc = rt.alloc();
+    let words = vec![in alloc; 0x0040_006f; 16_385]?;
+    let keys = "max = 16\nfuel = 100000\npool = 20000\ntool = 'calls'\n";
+    let mut files = guest_files(alloc, keys, 5, &words)?;
+    let mut shelf = MemShelf::new(alloc);
+    for journal in [FILLED, FULL] {
+        let text = format!(in alloc; "{PAST_THE_END}{journal}")?;
+        prints_on(
+            &rt,
+            alloc,
+            &mut files,
+            &mut shelf,
+            &["--journal"],
+            1,
+            text.as_bytes(),
+        )?;
+    }
+    Ok(())
+}
+
 #[test]
 fn the_greatest_seq_is_worn_out(rt: HostRuntime) -> Result<(), Fail> {
     let alloc = rt.alloc();

@@ -39,7 +39,7 @@ pub fn elf(alloc: Global, flags: u8, segment: &[u8]) -> Result<Vec<u8>, AllocErr
 /// The file of a segment of these words, with these flags.
 pub fn elf_of_words(alloc: Global, flags: u8, words: &[u32]) -> Result<Vec<u8>, Fail> {
     let segment = bytes_of(alloc, words)?;
-    if segment.len() >= 4096 {
+    if segment.len() > 1_048_576 {
         return Err(Fail::from("too many words"));
     }
     Ok(elf(alloc, flags, &segment)?)
