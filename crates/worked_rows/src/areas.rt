@@ -80,8 +80,14 @@ fn a_block_that_stops_at_a_multiplication_is_not_fresh(rt: HostRuntime) -> Resul
 }
 
 // What the run of the two instructions prints where its slot is shut.
-const SHUT: &[u8] =
-    b"guest g1 exit 0\noutput 0\n\nreport blocks 1\n00010000 1\ncounts blocks 1 reused 0 built 1 linked 0\nshut main.0.00000000.blocks.16 shelf\n";
+const SHUT: &[u8] = b"guest g1 exit 0
+output 0
+
+report blocks 1
+00010000 1
+counts blocks 1 reused 0 built 1 linked 0
+shut main.0.00000000.blocks.16 shelf
+";
 
 // A run of the two instructions on an empty shelf of which this call fails. It is loaded so, and these are the stages of its
 // publication, if there is one.

@@ -77,15 +77,30 @@ fn a_unit_of_version_1_is_reused_and_kept(rt: HostRuntime) -> Result<(), Fail> {
     keeps(&rt, &mut shelf, SLOT, &unit)
 }
 
+const WORD_BY_WORD: &[u8] = b"guest g1 exit 0
+output 0
+
+report blocks 2
+00010000 1
+00010004 1
+counts blocks 2 reused 0 built 2 linked 0
+";
+
 #[test]
 fn another_limit_of_blocks_has_its_own_slot(rt: HostRuntime) -> Result<(), Fail> {
     let alloc = rt.alloc();
     let unit = two_instructions(alloc, Version::Two)?;
     let mut shelf = with_area(alloc, SLOT, &unit)?;
     let mut files = guest_files(alloc, "max = 1\nfuel = 100000\n", 5, &EXITS)?;
-    let text =
-        b"guest g1 exit 0\noutput 0\n\nreport blocks 2\n00010000 1\n00010004 1\ncounts blocks 2 reused 0 built 2 linked 0\n";
-    prints_on(&rt, alloc, &mut files, &mut shelf, &["--counts"], 0, text)?;
+    prints_on(
+        &rt,
+        alloc,
+        &mut files,
+        &mut shelf,
+        &["--counts"],
+        0,
+        WORD_BY_WORD,
+    )?;
     let other = b"main.0.00000000.blocks.01";
     holds(&rt, alloc, &mut shelf, other, &[0x1_0000, 0x1_0004])?;
     keeps(&rt, &mut shelf, SLOT, &unit)
@@ -268,6 +283,17 @@ fn a_full_unit_takes_no_more(rt: HostRuntime) -> Result<(), Fail> {
     Ok(())
 }
 
+const WORN: &[u8] = b"guest g1 exit 0
+output 0
+
+report blocks 3
+00010000 1
+00010004 999
+0001000C 1
+counts blocks 1001 reused 1 built 2 linked 997
+shut main.0.00000000.blocks.16 worn
+";
+
 #[test]
 fn the_greatest_seq_is_worn_out(rt: HostRuntime) -> Result<(), Fail> {
     let alloc = rt.alloc();
@@ -280,9 +306,7 @@ fn the_greatest_seq_is_worn_out(rt: HostRuntime) -> Result<(), Fail> {
     let unit = area_file(alloc, Version::Two, u64::MAX, SLOT, &COUNTDOWN, &[first])?;
     let mut shelf = with_area(alloc, SLOT, &unit)?;
     let mut files = guest_files(alloc, FRAME, 5, &COUNTDOWN)?;
-    let text =
-        b"guest g1 exit 0\noutput 0\n\nreport blocks 3\n00010000 1\n00010004 999\n0001000C 1\ncounts blocks 1001 reused 1 built 2 linked 997\nshut main.0.00000000.blocks.16 worn\n";
-    let ended = prints_on(&rt, alloc, &mut files, &mut shelf, &["--counts"], 0, text)?;
+    let ended = prints_on(&rt, alloc, &mut files, &mut shelf, &["--counts"], 0, WORN)?;
     let fault = Some(PubFault::WornOut);
     let worn = Pub {
         slot: 0,
