@@ -1,20 +1,15 @@
-// Guests as files under a manifest, and their runs.
+// Guests as files under a manifest, and the words of a command.
 ghost use Rattle.std.specs.Prelude.{◌<◌, ◌^◌, length};
 
-use cc_base::Blob;
-use elf_map::Elf;
-use guest_loop::{Counts, Ran};
-use host::{GuestEnd, host};
-use host_text::text_of;
-use manifest::{GuestRow, Manifest};
-use outside::{MemFiles, MemSink};
-use plain_run::{Module, Setup, interpret};
+use outside::MemFiles;
 use std::alloc::{AllocError, Global};
-use std::process::Abort;
 use std::test::Fail;
 
 /// The keys of the guest in most rows.
 pub const FRAME: &str = "max = 16\nfuel = 100000\n";
+
+/// ADDI x17, x0, 93; ECALL: the program of most rows.
+pub const EXITS: [u32; 2] = [0x05d0_0893, 0x0000_0073];
 
 // The manifest of one file, one module and one guest, up to the guest's further keys.
 const MANIFEST: &str =
@@ -43,14 +38,37 @@ pub fn elf(alloc: Global, flags: u8, segment: &[u8]) -> Result<Vec<u8>, AllocErr
 
 /// The file of a segment of these words, with these flags.
 pub fn elf_of_words(alloc: Global, flags: u8, words: &[u32]) -> Result<Vec<u8>, Fail> {
-    let mut segment = Vec::new(alloc);
-    for word in words {
-        segment.extend_from_slice(&word.to_le_bytes())?;
-    }
-    if segment.len() >= 4096 {
+    let segment = bytes_of(alloc, words)?;
+    if segment.len() > 1_048_576 {
         return Err(Fail::from("too many words"));
     }
     Ok(elf(alloc, flags, &segment)?)
+}
+
+/// The bytes of these words.
+pub fn bytes_of(alloc: Global, words: &[u32]) -> Result<Vec<u8>, AllocError> {
+    let mut bytes = Vec::new(alloc);
+    for word in words {
+        bytes.extend_from_slice(&word.to_le_bytes())?;
+    }
+    Ok(bytes)
+}
+
+/// The bytes with another one at a place.
+pub fn changed(alloc: Global, bytes: &[u8], at: usize, byte: u8) -> Result<Vec<u8>, AllocError> {
+    let mut bytes = Vec::from_slice(alloc, bytes)?;
+    if let Some(place) = bytes.get_mut(at) {
+        *place = byte;
+    }
+    Ok(bytes)
+}
+
+/// The manifest m.toml of one file with these further keys of its guest, and p.elf with a segment of these words, with these
+/// flags.
+pub fn guest_files(alloc: Global, keys: &str, flags: u8, words: &[u32]) -> Result<MemFiles, Fail> {
+    let manifest = one_guest(alloc, keys)?;
+    let file = elf_of_words(alloc, flags, words)?;
+    Ok(two_files(alloc, manifest.as_bytes(), &file)?)
 }
 
 /// The words of a command.
@@ -63,176 +81,16 @@ pub fn words(alloc: Global, texts: &[&str]) -> Result<Vec<String>, AllocError> {
 }
 
 /// The manifest of one file with these further keys of its guest.
-pub fn manifest(alloc: Global, keys: &str) -> Result<String, AllocError> {
+pub fn one_guest(alloc: Global, keys: &str) -> Result<String, AllocError> {
     let mut text = String::from_str(alloc, MANIFEST)?;
     text.push_str(keys)?;
     Ok(text)
 }
 
-// What a guest of a manifest is run with.
-fn setup(guest: &GuestRow, input: Blob) -> Setup {
-    Setup {
-        isa: guest.isa,
-        tool: guest.tool,
-        max: guest.max,
-        fuel: guest.fuel,
-        stack: guest.stack,
-        input,
-    }
-}
-
-// No counts, since the interpreter keeps no blocks.
-const NONE: Counts = Counts {
-    blocks: 0,
-    reused: 0,
-    built: 0,
-    linked: 0,
-};
-
-// The text of the run without counts, as the interpreter gives it.
-fn interpreted(alloc: Global, manifest: &[u8], file: &[u8], input: &[u8]) -> Result<Vec<u8>, Fail> {
-    let Ok(manifest) = Manifest::read(alloc, manifest) else {
-        return Err(Fail::from("the manifest is refused"));
-    };
-    let mut elfs = Vec::new(alloc);
-    elfs.push(Elf::read(alloc, file)?)?;
-    let ([module], [guest]) = (manifest.modules(), manifest.guests()) else {
-        return Err(Fail::from("more than one guest"));
-    };
-    if module.file > 0 {
-        return Err(Fail::from("more than one file"));
-    }
-    let placed = Module {
-        base: module.base,
-        file: module.file,
-    };
-    let plain = interpret(alloc, &elfs, placed, &setup(guest, Blob::of(alloc, input)?))?;
-    let ran = Ran {
-        end: plain.end,
-        maps: plain.maps,
-        output: plain.output,
-        report: plain.report,
-        counts: NONE,
-    };
-    Ok(text_of(alloc, &guest.name, &ran, false)?)
-}
-
-// What a run printed, its status, and the end of its guest.
-#[derive(Drop)]
-struct Printed {
-    text: Vec<u8>,
-    status: u8,
-    guest: GuestEnd,
-}
-
-// What the host prints of this file under these keys, with this content of the file `in`, with its counts or without.
-fn hosted(
-    alloc: Global,
-    manifest: &[u8],
-    file: &[u8],
-    input: &[u8],
-    with_counts: bool,
-) -> Result<Printed, Fail> {
+/// The manifest m.toml with this text, and p.elf with this content.
+pub fn two_files(alloc: Global, manifest: &[u8], file: &[u8]) -> Result<MemFiles, AllocError> {
     let mut files = MemFiles::new(alloc);
     files.put("m.toml", manifest)?;
     files.put("p.elf", file)?;
-    files.put("in", input)?;
-    let mut out = MemSink::new(alloc, 1000)?;
-    let mut words = words(alloc, &["run", "m.toml"])?;
-    if with_counts {
-        words.push(String::from_str(alloc, "--counts")?)?;
-    }
-    let ended = host(alloc, &words, &mut files, &mut out);
-    let Some(guest) = ended.guests.into_iter().next() else {
-        return Err(Fail::from("nothing was run"));
-    };
-    Ok(Printed {
-        text: Vec::from_slice(alloc, out.bytes())?,
-        status: ended.status,
-        guest,
-    })
-}
-
-/// The run of this file under these keys, with this content of the file `in`, prints this text and gives this status, and
-/// the interpreter gives the same text.
-pub fn prints_with(
-    rt: &impl Abort,
-    alloc: Global,
-    keys: &str,
-    file: &[u8],
-    input: &[u8],
-    status: u8,
-    text: &[u8],
-) -> Result<(), Fail> {
-    let manifest = manifest(alloc, keys)?;
-    let printed = hosted(alloc, manifest.as_bytes(), file, input, false)?;
-    assert_eq!(rt; printed.text.as_slice(), text);
-    assert_eq!(rt; printed.status, status);
-    let plain = interpreted(alloc, manifest.as_bytes(), file, input)?;
-    assert_eq!(rt; plain.as_slice(), text);
-    Ok(())
-}
-
-/// The same for a segment of these words, with these flags, and no input.
-pub fn prints(
-    rt: &impl Abort,
-    alloc: Global,
-    keys: &str,
-    flags: u8,
-    words: &[u32],
-    status: u8,
-    text: &[u8],
-) -> Result<(), Fail> {
-    let file = elf_of_words(alloc, flags, words)?;
-    prints_with(rt, alloc, keys, &file, b"", status, text)
-}
-
-/// The run of this file under these keys and with no input prints what the interpreter gives, whatever it is.
-pub fn agrees(rt: &impl Abort, alloc: Global, keys: &str, file: &[u8]) -> Result<(), Fail> {
-    let manifest = manifest(alloc, keys)?;
-    let printed = hosted(alloc, manifest.as_bytes(), file, b"", false)?;
-    let plain = interpreted(alloc, manifest.as_bytes(), file, b"")?;
-    assert_eq!(rt; printed.text, plain);
-    Ok(())
-}
-
-/// The run of this file under these keys and with no input counts so many blocks begun, reused, built and linked, and
-/// prints them with `--counts` behind what the interpreter gives.
-pub fn counts_with(
-    rt: &impl Abort,
-    alloc: Global,
-    keys: &str,
-    file: &[u8],
-    counts: [u64; 4],
-) -> Result<(), Fail> {
-    let [blocks, reused, built, linked] = counts;
-    let manifest = manifest(alloc, keys)?;
-    let printed = hosted(alloc, manifest.as_bytes(), file, b"", true)?;
-    let told = Counts {
-        blocks,
-        reused,
-        built,
-        linked,
-    };
-    assert_eq!(rt; printed.guest.counts, told);
-    let mut text = interpreted(alloc, manifest.as_bytes(), file, b"")?;
-    let line = format!(in alloc;
-        "counts blocks {blocks} reused {reused} built {built} linked {linked}\n"
-    )?;
-    text.extend_from_slice(line.as_bytes())?;
-    assert_eq!(rt; printed.text, text);
-    Ok(())
-}
-
-/// The same for a segment of these words, with these flags.
-pub fn counts(
-    rt: &impl Abort,
-    alloc: Global,
-    keys: &str,
-    flags: u8,
-    words: &[u32],
-    counts: [u64; 4],
-) -> Result<(), Fail> {
-    let file = elf_of_words(alloc, flags, words)?;
-    counts_with(rt, alloc, keys, &file, counts)
+    Ok(files)
 }

@@ -1,13 +1,13 @@
 // Refusals, and a sink that fails.
-use crate::files::{FRAME, elf, elf_of_words, manifest, words};
+use crate::files::{EXITS, FRAME, changed, elf_of_words, guest_files, one_guest, two_files, words};
+use crate::shelves::{SLOT, keeps, two_instructions};
 use host::host;
 use outside::{FuseFiles, FuseSink, MemFiles, MemSink};
+use shelf_model::MemShelf;
 use std::alloc::Global;
 use std::process::Abort;
 use std::test::Fail;
-
-// ADDI x17, x0, 93 and ECALL.
-const EXITS: [u32; 2] = [0x05d0_0893, 0x0000_0073];
+use unit_format::Version;
 
 // These words are refused with this status and this line, where m.toml has this text and p.elf this content.
 fn refuses(
@@ -19,12 +19,11 @@ fn refuses(
     status: u8,
     line: &[u8],
 ) -> Result<(), Fail> {
-    let mut files = MemFiles::new(alloc);
-    files.put("m.toml", manifest)?;
-    files.put("p.elf", content)?;
+    let mut files = two_files(alloc, manifest, content)?;
     let mut out = MemSink::new(alloc, 100)?;
     let words = words(alloc, texts)?;
-    let ended = host(alloc, &words, &mut files, &mut out);
+    let mut shelf = MemShelf::new(alloc);
+    let ended = host(alloc, &words, &mut files, &mut shelf, &mut out);
     assert_eq!(rt; ended.status, status);
     assert_eq!(rt; out.bytes(), line);
     assert_eq!(rt; ended.guests.len(), 0);
@@ -39,7 +38,7 @@ fn refuses_file(
     status: u8,
     line: &[u8],
 ) -> Result<(), Fail> {
-    let manifest = manifest(alloc, FRAME)?;
+    let manifest = one_guest(alloc, FRAME)?;
     let words = ["run", "m.toml"];
     refuses(
         rt,
@@ -60,7 +59,8 @@ fn words_of_no_run_are_refused(rt: HostRuntime) -> Result<(), Fail> {
     refuses(&rt, alloc, b"", b"", &["run"], 2, line)?;
     let twice = ["run", "m.toml", "--counts", "--counts"];
     refuses(&rt, alloc, b"", b"", &twice, 2, line)?;
-    let other = ["run", "m.toml", "--journal"];
+    refuses(&rt, alloc, b"", b"", &["gen", "01"], 2, line)?;
+    let other = ["run", "m.toml", "--live"];
     refuses(&rt, alloc, b"", b"", &other, 2, line)
 }
 
@@ -73,18 +73,10 @@ fn a_long_file_and_a_short_one_are_refused(rt: HostRuntime) -> Result<(), Fail> 
     refuses_file(&rt, alloc, b"", 5, b"error elf p.elf short\n")
 }
 
-// The file of two instructions with one byte changed.
-fn damaged(alloc: Global, at: usize, byte: u8) -> Result<Vec<u8>, Fail> {
-    let mut file = elf(alloc, 5, &[0x93, 0x08, 0xd0, 0x05, 0x73, 0, 0, 0])?;
-    if let Some(place) = file.get_mut(at) {
-        *place = byte;
-    }
-    Ok(file)
-}
-
 #[test]
 fn a_file_that_breaks_a_rule_is_refused_by_its_name(rt: HostRuntime) -> Result<(), Fail> {
     let alloc = rt.alloc();
+    let whole = elf_of_words(alloc, 5, &EXITS)?;
     for (at, byte, line) in [
         (0, 0, "error elf p.elf magic\n"),
         (4, 2, "error elf p.elf class\n"),
@@ -102,10 +94,10 @@ fn a_file_that_breaks_a_rule_is_refused_by_its_name(rt: HostRuntime) -> Result<(
         (56, 0x55, "error elf p.elf segment 0\n"),
         (68, 9, "error elf p.elf segment 0\n"),
     ] {
-        let file = damaged(alloc, at, byte)?;
+        let file = changed(alloc, &whole, at, byte)?;
         refuses_file(&rt, alloc, &file, 5, line.as_bytes())?;
     }
-    let mut cut = damaged(alloc, 0, 0x7f)?;
+    let mut cut = whole;
     cut.truncate(51);
     refuses_file(&rt, alloc, &cut, 5, b"error elf p.elf short\n")
 }
@@ -134,21 +126,24 @@ fn an_empty_manifest_misses_its_files(rt: HostRuntime) -> Result<(), Fail> {
     )
 }
 
+// Each module may be a slot of each guest's tool.
 #[test]
-fn two_guests_are_not_run_yet(rt: HostRuntime) -> Result<(), Fail> {
+fn slots_over_64_are_refused(rt: HostRuntime) -> Result<(), Fail> {
     let alloc = rt.alloc();
-    let keys = "max = 16\n[[guest]]\nname = 'g2'\nmodule = 'main'\n";
-    let manifest = manifest(alloc, keys)?;
+    let mut text = String::from_str(alloc, "files = ['p.elf']\n")?;
+    for module in 0..32 {
+        write!(text, "[[module]]\nname = 'm{module}'\nfile = 'p.elf'\n")?;
+    }
+    for tool in ["blocks", "calls", "memory"] {
+        write!(
+            text,
+            "[[guest]]\nname = '{tool}'\nmodule = 'm0'\ntool = '{tool}'\n"
+        )?;
+    }
+    let file = elf_of_words(alloc, 5, &EXITS)?;
     let words = ["run", "m.toml"];
-    refuses(
-        &rt,
-        alloc,
-        manifest.as_bytes(),
-        b"",
-        &words,
-        9,
-        b"error unbuilt\n",
-    )
+    let line = b"error slots 96\n";
+    refuses(&rt, alloc, text.as_bytes(), &file, &words, 5, line)
 }
 
 // The words `run m.toml` give this status and this line, where there is no p.elf and no input.
@@ -160,14 +155,15 @@ fn misses(
     line: &[u8],
 ) -> Result<(), Fail> {
     let mut files = MemFiles::new(alloc);
-    let manifest = manifest(alloc, "input = 'in'\n")?;
+    let manifest = one_guest(alloc, "input = 'in'\n")?;
     files.put("m.toml", manifest.as_bytes())?;
     if let Some(content) = file {
         files.put("p.elf", content)?;
     }
     let mut out = MemSink::new(alloc, 100)?;
     let words = words(alloc, &["run", "m.toml"])?;
-    let ended = host(alloc, &words, &mut files, &mut out);
+    let mut shelf = MemShelf::new(alloc);
+    let ended = host(alloc, &words, &mut files, &mut shelf, &mut out);
     assert_eq!(rt; ended.status, status);
     assert_eq!(rt; out.bytes(), line);
     Ok(())
@@ -181,47 +177,43 @@ fn absent_files_and_inputs_are_unread(rt: HostRuntime) -> Result<(), Fail> {
     misses(&rt, alloc, Some(b""), 4, b"error file in unread\n")?;
     let mut out = MemSink::new(alloc, 100)?;
     let words = words(alloc, &["run", "m.toml"])?;
-    let ended = host(alloc, &words, &mut MemFiles::new(alloc), &mut out);
+    let mut files = MemFiles::new(alloc);
+    let mut shelf = MemShelf::new(alloc);
+    let ended = host(alloc, &words, &mut files, &mut shelf, &mut out);
     assert_eq!(rt; ended.status, 4);
     assert_eq!(rt; out.bytes(), b"error file m.toml unread\n".as_slice());
     Ok(())
 }
 
-// The manifest m.toml, and p.elf with two instructions.
-fn two_files(alloc: Global) -> Result<MemFiles, Fail> {
-    let mut files = MemFiles::new(alloc);
-    let manifest = manifest(alloc, FRAME)?;
-    files.put("m.toml", manifest.as_bytes())?;
-    files.put("p.elf", &elf_of_words(alloc, 5, &EXITS)?)?;
-    Ok(files)
-}
-
 #[test]
 fn a_read_that_fails_is_told(rt: HostRuntime) -> Result<(), Fail> {
     let alloc = rt.alloc();
-    let mut files = FuseFiles::new(two_files(alloc)?, vec![in alloc; 2]?);
+    let files = guest_files(alloc, FRAME, 5, &EXITS)?;
+    let mut files = FuseFiles::new(files, vec![in alloc; 2]?);
+    let mut shelf = MemShelf::new(alloc);
     let mut out = MemSink::new(alloc, 100)?;
     let words = words(alloc, &["run", "m.toml"])?;
-    let ended = host(alloc, &words, &mut files, &mut out);
+    let ended = host(alloc, &words, &mut files, &mut shelf, &mut out);
     assert_eq!(rt; ended.status, 4);
-    let ended = host(alloc, &words, &mut files, &mut out);
+    let ended = host(alloc, &words, &mut files, &mut shelf, &mut out);
     assert_eq!(rt; ended.status, 0);
     Ok(())
 }
 
 #[test]
-fn a_sink_that_fails_keeps_a_front(rt: HostRuntime) -> Result<(), Fail> {
+fn a_sink_that_fails_keeps_a_front_and_the_unit(rt: HostRuntime) -> Result<(), Fail> {
     let alloc = rt.alloc();
-    let mut files = two_files(alloc)?;
+    let mut files = guest_files(alloc, FRAME, 5, &EXITS)?;
+    let mut shelf = MemShelf::new(alloc);
     let mut out = FuseSink::new(alloc, 100, vec![in alloc; 3]?, 5)?;
     let words = words(alloc, &["run", "m.toml"])?;
-    let ended = host(alloc, &words, &mut files, &mut out);
+    let ended = host(alloc, &words, &mut files, &mut shelf, &mut out);
     assert_eq!(rt; ended.status, 7);
     assert_eq!(rt; out.bytes(), b"guest g1 e".as_slice());
-    assert_eq!(rt; ended.guests.len(), 1);
-    let Some(guest) = ended.guests.first() else {
+    let [guest] = ended.guests.as_slice() else {
         return Err(Fail::from("no guest"));
     };
-    assert_eq!(rt; guest.maps.items(), [0].as_slice());
-    Ok(())
+    assert_eq!(rt; guest.maps.as_slice(), [0].as_slice());
+    let unit = two_instructions(alloc, Version::Two)?;
+    keeps(&rt, &mut shelf, SLOT, &unit)
 }

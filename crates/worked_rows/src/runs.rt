@@ -1,5 +1,6 @@
 // Runs with their texts.
-use crate::files::{FRAME, elf, elf_of_words, prints, prints_with};
+use crate::files::{FRAME, elf, elf_of_words};
+use crate::hosting::{prints, prints_with};
 use std::test::Fail;
 
 #[test]
