@@ -1,3 +1,5 @@
 pub mod Job
 pub mod Shelf
 pub mod Whole
+pub mod Start
+pub mod Crew
