@@ -1,9 +1,11 @@
-//! Runs the guest of a manifest: `cachehost run FILE`, or `cachehost run FILE --counts`, on the files of the working folder and standard
-//! output. The exit status is the host's. It stands on `host` and `outside`, and on the clause of `host::host` for the rest.
+//! Runs the guests of a manifest: `cachehost run FILE`, with the options `--counts` and `--journal`, on the files of the working
+//! folder, its folder `unit-cache` and standard output. The exit status is the host's. It stands on `host`, `outside` and
+//! `shelf_model`, and on the clauses of `host::host` for the rest.
 #![tactic(auto)]
 
 use host::host;
 use outside::{DiskFiles, StdSink};
+use shelf_model::DiskShelf;
 use std::alloc::Global;
 use std::io::ErrorKind;
 use std::process::ExitCode;
@@ -24,8 +26,9 @@ fn main(rt: HostRuntime) -> ExitCode {
         Err(_) => Vec::new(alloc),
     };
     let mut files = DiskFiles::new(rt, alloc);
+    let mut shelf = DiskShelf::new(rt, alloc);
     let mut out = StdSink::new(rt);
-    let ended = host(alloc, &words, &mut files, &mut out);
+    let ended = host(alloc, &words, &mut files, &mut shelf, &mut out);
     ExitCode::from(ended.status)
 }
 

@@ -1,4 +1,5 @@
 mod Steps
+pub mod Faulty
 pub mod Oracles
 pub mod Told
 pub mod Sources

@@ -71,8 +71,9 @@ agrees_too whole part limit name (Err causes.Done) is agrees = absurd agrees
 agrees_too whole part limit name (Err causes.GuestEnded) is agrees = absurd agrees
 agrees_too whole part limit name (Err causes.Words) is agrees = absurd agrees
 agrees_too whole part limit name (Err (causes.Manifest e)) is agrees = absurd agrees
-agrees_too whole part limit name (Err causes.Unbuilt) is agrees = absurd agrees
 agrees_too whole part limit name (Err (causes.Elf n e)) is agrees = absurd agrees
+agrees_too whole part limit name (Err (causes.Slots n)) is agrees = absurd agrees
+agrees_too whole part limit name (Err (causes.Shelf n)) is agrees = absurd agrees
 agrees_too whole part limit name (Err causes.Sink) is agrees = absurd agrees
 
 pub read_too : (whole part : Source) (limit : ℕ) (names all : List (List ℕ)) → IsPart whole part → AreRead part limit names all → AreRead whole limit names all

@@ -1,48 +1,54 @@
 -- What the answers of the top call say.
-use Rattle.std.proofs.Common.{◌≡◌, ◌≢◌, ℕ, if◌then◌else◌, List, [], ◌∷◌, take, Option, None, Ok, Err, Result, OnOk, OnErr, IsErr, refl, sym, ◌∙◌, ap, subst, ⊎_elim, ◌⊎◌, inl, inr}
+use Rattle.std.proofs.Common.{◌≡◌, ◌≢◌, ℕ, Bool, true, if◌then◌else◌, List, [], take, Option, Some, None, Ok, Err, Result, OnOk, OnErr, IsErr, refl, sym, ◌∙◌, ap, subst, ⊎_elim, ◌⊎◌, inl, inr}
 use Rattle.std.specs.Prelude.{String}
 use Rattle.std.specs.declared.alloc.Global.{Global}
 use Rattle.std.proofs.Math.Seq.{take-nil}
 use Rattle.std.proofs.lemmas.Bool.{cases_Bool}
 use Rattle.outside.specs.Faults.{Rose}
 use Rattle.outside.specs.Sink.{with_bytes}
+use Rattle.journal_text.specs.Shut.{first_fault, shelf_failed}
+use Rattle.unit_set.specs.Slot.{slot_text}
+use Rattle.publisher.specs.Loads.{name_at}
+use Rattle.whole_run.specs.Job.{slots_in_job}
 use Rattle.host_text.specs.Refusals.{refusal_text, status_of}
 use Rattle.host_text.specs.declared.cause.Cause.{Cause}
 use Rattle.host_text.specs.declared.cause.Cause.TheVariants as causes
 use Rattle.host_text.proofs.Written.{nothing_more}
-use Rattle.host.specs.declared.ended.GuestEnd.{GuestEnd}
 use Rattle.host.specs.Words.{order_of}
 use Rattle.host.specs.Outcome.{Plan, Source, outcome, answers_of, IsSteady}
-use Rattle.host.specs.Answer.{Seen, is_exit, cause_of, Runs, Refuses, Prints, TellsLine, TellsRefusal, Tells, IsOfRun, Decides, IsFair, RanOrMemory}
+use Rattle.host.specs.Answer.{Seen, Lists, no_lists, job_in, all_exit, cause_by, cause_of, Runs, Refuses, Prints, TellsLine, TellsRefusal, Tells, is_of_run, Decides, IsFair, RanOrMemory}
+use Rattle.host.proofs.Faulty.{first_failed}
 use Rattle.host.proofs.Told.{same_told, err_cause, just_words, just_refusals, IsRefusal}
 
 -- ---- what was written
 
-prints : (words : List (String Global)) (seen : Seen) (guest : GuestEnd) (guests : List GuestEnd) (text : List ℕ) → Runs words seen.source guest text →
-    guests ≡ guest ∷ [] → seen.written_after ≡ with_bytes seen.written_before text → Prints words seen (is_exit guest.end) guests
-prints words seen guest guests text runs told whole = record { guest = guest; text = text; runs = runs; how = refl; told = told; whole = whole }
+prints : (words : List (String Global)) (seen : Seen) (lists : Lists) (cause : Cause) (text : List ℕ) → Runs words seen.source seen.shelf lists text →
+    cause_of lists ≡ cause → seen.written_after ≡ with_bytes seen.written_before text → Prints words seen cause lists
+prints words seen lists cause text runs how whole = record { text = text; runs = runs; how = how; whole = whole }
+
+by_parts : (words : List (String Global)) (seen : Seen) (lists : Lists) (fault : Option ℕ) (exits : Bool) → Prints words seen (cause_by fault exits) lists → Tells words seen (cause_by fault exits) lists
+by_parts words seen lists (Some slot) exits all = all
+by_parts words seen lists None exits all =
+    ⊎_elim (λ yes. let e : cause_by None exits ≡ causes.Done = ap (λ b. if b then causes.Done else causes.GuestEnded) yes in
+    subst (λ x. Tells words seen x lists) (sym e) (subst (λ x. Prints words seen x lists) e all))
+    (λ no. let e : cause_by None exits ≡ causes.GuestEnded = ap (λ b. if b then causes.Done else causes.GuestEnded) no in
+    subst (λ x. Tells words seen x lists) (sym e) (subst (λ x. Prints words seen x lists) e all))
+    (cases_Bool exits)
 
 -- the text was written whole
-pub tells_run : (words : List (String Global)) (seen : Seen) (guest : GuestEnd) (guests : List GuestEnd) (cause : Cause) (text : List ℕ) → cause ≡ cause_of guest.end →
-    Runs words seen.source guest text → guests ≡ guest ∷ [] → seen.written_after ≡ with_bytes seen.written_before text → Tells words seen cause guests
-tells_run words seen guest guests cause text is runs told whole =
-    let all = prints words seen guest guests text runs told whole in
-    ⊎_elim
-    (λ exits.
-    let done : cause ≡ causes.Done = is ∙ ap (λ b. if b then causes.Done else causes.GuestEnded) exits in
-    subst (λ x. Tells words seen x guests) (sym done) (subst (λ b. Prints words seen b guests) exits all))
-    (λ ends.
-    let ended : cause ≡ causes.GuestEnded = is ∙ ap (λ b. if b then causes.Done else causes.GuestEnded) ends in
-    subst (λ x. Tells words seen x guests) (sym ended) (subst (λ b. Prints words seen b guests) ends all))
-    (cases_Bool (is_exit guest.end))
+pub tells_run : (words : List (String Global)) (seen : Seen) (lists : Lists) (cause : Cause) (text : List ℕ) → cause ≡ cause_of lists →
+    Runs words seen.source seen.shelf lists text → seen.written_after ≡ with_bytes seen.written_before text → Tells words seen cause lists
+tells_run words seen lists cause text is runs whole =
+    subst (λ x. Tells words seen x lists) (sym is)
+    (by_parts words seen lists (first_fault lists.loads lists.served) (all_exit lists.guests) (prints words seen lists (cause_of lists) text runs refl whole))
 
 -- a front of it was written
-pub tells_front : (words : List (String Global)) (seen : Seen) (guest : GuestEnd) (guests : List GuestEnd) (cause : Cause) (text : List ℕ) → cause ≡ causes.Sink →
-    Runs words seen.source guest text → guests ≡ guest ∷ [] →
-    (n : ℕ) × (seen.written_after ≡ with_bytes seen.written_before (take n text)) → Rose seen.sink_before seen.sink_after → Tells words seen cause guests
-tells_front words seen guest guests cause text is runs told front failed =
-    subst (λ x. Tells words seen x guests) (sym is)
-    (record { guest = guest; text = text; runs = runs; told = told; count = front.0; front = front.1; failed = failed })
+pub tells_front : (words : List (String Global)) (seen : Seen) (lists : Lists) (cause : Cause) (text : List ℕ) → cause ≡ causes.Sink →
+    Runs words seen.source seen.shelf lists text →
+    (n : ℕ) × (seen.written_after ≡ with_bytes seen.written_before (take n text)) → Rose seen.sink_before seen.sink_after → Tells words seen cause lists
+tells_front words seen lists cause text is runs front failed =
+    subst (λ x. Tells words seen x lists) (sym is)
+    (record { text = text; runs = runs; count = front.0; front = front.1; failed = failed })
 
 -- What comes of writing a line: all of it, or a front where the sink failed.
 pub line_told : {A E : Type 0} (before after : Option (List ℕ)) (low high : ℕ) (line : List ℕ) (r : Result A E) → OnOk r (after ≡ with_bytes before line) →
@@ -64,31 +70,38 @@ memory_or_not causes.Done = inr (λ is. cc)
 memory_or_not causes.GuestEnded = inr (λ is. cc)
 memory_or_not causes.Words = inr (λ is. cc)
 memory_or_not (causes.Manifest e) = inr (λ is. cc)
-memory_or_not causes.Unbuilt = inr (λ is. cc)
 memory_or_not (causes.Unread name) = inr (λ is. cc)
 memory_or_not (causes.Long name) = inr (λ is. cc)
 memory_or_not (causes.Elf name e) = inr (λ is. cc)
+memory_or_not (causes.Slots n) = inr (λ is. cc)
 memory_or_not causes.Sink = inr (λ is. cc)
+memory_or_not (causes.Shelf n) = inr (λ is. cc)
 
 not_run : (words : List (String Global)) (s : Source) (cause : Cause) → Refuses words s cause → IsRefusal cause
 not_run words s cause r = just_refusals words s r.answers r.agree cause r.comes
 
-refusal : (words : List (String Global)) (seen : Seen) (cause : Cause) (guests : List GuestEnd) → Refuses words seen.source cause → guests ≡ [] →
-    TellsLine seen (refusal_text cause) → TellsRefusal words seen cause guests
-refusal words seen cause guests why none line = record { why = why; none = none; line = line }
+-- nothing was run, and these are the reasons unless memory ran out
+pub record IsRefused (words : List (String Global)) (seen : Seen) (cause : Cause) (lists : Lists) : Type 0 where
+  pub why : cause ≢ causes.Memory → Refuses words seen.source cause
+  pub none : lists ≡ no_lists
+  pub line : TellsLine seen (refusal_text cause)
+  pub still : cause ≢ causes.Memory → seen.shelf.told_after ≡ seen.shelf.told_before
 
-pub tells_refusal : (words : List (String Global)) (seen : Seen) (cause : Cause) (guests : List GuestEnd) → (cause ≢ causes.Memory → Refuses words seen.source cause) → guests ≡ [] →
-    TellsLine seen (refusal_text cause) → Tells words seen cause guests
-tells_refusal words seen causes.Memory guests why none line = (no_line _ _ _ _ line, none)
-tells_refusal words seen causes.Done guests why none line = absurd (not_run words seen.source causes.Done (why (λ is. cc)))
-tells_refusal words seen causes.GuestEnded guests why none line = absurd (not_run words seen.source causes.GuestEnded (why (λ is. cc)))
-tells_refusal words seen causes.Sink guests why none line = absurd (not_run words seen.source causes.Sink (why (λ is. cc)))
-tells_refusal words seen causes.Words guests why none line = refusal words seen causes.Words guests (why (λ is. cc)) none line
-tells_refusal words seen (causes.Manifest e) guests why none line = refusal words seen (causes.Manifest e) guests (why (λ is. cc)) none line
-tells_refusal words seen causes.Unbuilt guests why none line = refusal words seen causes.Unbuilt guests (why (λ is. cc)) none line
-tells_refusal words seen (causes.Unread name) guests why none line = refusal words seen (causes.Unread name) guests (why (λ is. cc)) none line
-tells_refusal words seen (causes.Long name) guests why none line = refusal words seen (causes.Long name) guests (why (λ is. cc)) none line
-tells_refusal words seen (causes.Elf name e) guests why none line = refusal words seen (causes.Elf name e) guests (why (λ is. cc)) none line
+refusal : (words : List (String Global)) (seen : Seen) (cause : Cause) (lists : Lists) → cause ≢ causes.Memory → IsRefused words seen cause lists → TellsRefusal words seen cause lists
+refusal words seen cause lists other r = record { why = r.why other; none = r.none; line = r.line; still = r.still other }
+
+pub tells_refusal : (words : List (String Global)) (seen : Seen) (cause : Cause) (lists : Lists) → IsRefused words seen cause lists → Tells words seen cause lists
+tells_refusal words seen causes.Memory lists r = (no_line _ _ _ _ r.line, r.none)
+tells_refusal words seen causes.Done lists r = absurd (not_run words seen.source causes.Done (r.why (λ is. cc)))
+tells_refusal words seen causes.GuestEnded lists r = absurd (not_run words seen.source causes.GuestEnded (r.why (λ is. cc)))
+tells_refusal words seen causes.Sink lists r = absurd (not_run words seen.source causes.Sink (r.why (λ is. cc)))
+tells_refusal words seen (causes.Shelf n) lists r = absurd (not_run words seen.source (causes.Shelf n) (r.why (λ is. cc)))
+tells_refusal words seen causes.Words lists r = refusal words seen causes.Words lists (λ is. cc) r
+tells_refusal words seen (causes.Manifest e) lists r = refusal words seen (causes.Manifest e) lists (λ is. cc) r
+tells_refusal words seen (causes.Unread name) lists r = refusal words seen (causes.Unread name) lists (λ is. cc) r
+tells_refusal words seen (causes.Long name) lists r = refusal words seen (causes.Long name) lists (λ is. cc) r
+tells_refusal words seen (causes.Elf name e) lists r = refusal words seen (causes.Elf name e) lists (λ is. cc) r
+tells_refusal words seen (causes.Slots n) lists r = refusal words seen (causes.Slots n) lists (λ is. cc) r
 
 -- ---- what is decided
 
@@ -99,7 +112,7 @@ decides_memory (Err why) cause is = inl is
 decides_cause : (r : Result Plan Cause) (cause : Cause) → Err cause ≡ r → Decides r cause
 decides_cause r cause is = subst (λ q. Decides q cause) is (inr refl)
 
-decides_run : (r : Result Plan Cause) (plan : Plan) (cause : Cause) → Ok plan ≡ r → IsOfRun cause → Decides r cause
+decides_run : (r : Result Plan Cause) (plan : Plan) (cause : Cause) → Ok plan ≡ r → is_of_run cause ≡ true → Decides r cause
 decides_run r plan cause is run = subst (λ q. Decides q cause) is (inr run)
 
 memory_is : (cause : Cause) → cause ≢ causes.Memory → (a : Result Plan Cause) → a ≡ Err cause → a ≡ Err causes.Memory → ⊥
@@ -118,24 +131,24 @@ decided_refusal words s cause why steady =
 no_memory : (plan : Plan) (a : Result Plan Cause) → a ≡ Ok plan → a ≡ Err causes.Memory → ⊥
 no_memory plan a is memory = let same : Ok plan ≡ Err causes.Memory = sym is ∙ memory in cc
 
-pub decided_run : (words : List (String Global)) (s : Source) (guest : GuestEnd) (text : List ℕ) (cause : Cause) → Runs words s guest text → IsOfRun cause → IsSteady s →
-    Decides (outcome words (answers_of s.content)) cause
-decided_run words s guest text cause r run steady =
-    ⊎_elim (λ memory. absurd (no_memory r.plan (outcome words r.answers) r.comes memory))
-    (λ same. decides_run (outcome words (answers_of s.content)) r.plan cause (sym r.comes ∙ same) run)
-    (same_told words s r.answers steady r.agree)
+pub decided_run : (words : List (String Global)) (seen : Seen) (lists : Lists) (text : List ℕ) (cause : Cause) → Runs words seen.source seen.shelf lists text → is_of_run cause ≡ true → IsSteady seen.source →
+    Decides (outcome words (answers_of seen.source.content)) cause
+decided_run words seen lists text cause r run steady =
+    ⊎_elim (λ memory. absurd (no_memory r.plan (outcome words r.comes.answers) r.comes.comes memory))
+    (λ same. decides_run (outcome words (answers_of seen.source.content)) r.plan cause (sym r.comes.comes ∙ same) run)
+    (same_told words seen.source r.comes.answers steady r.comes.agree)
 
-pub of_run : (guest : GuestEnd) (cause : Cause) → cause ≡ cause_of guest.end → IsOfRun cause
-of_run guest cause is =
-    ⊎_elim (λ exits. inl (is ∙ ap (λ b. if b then causes.Done else causes.GuestEnded) exits))
-    (λ ends. inr (inl (is ∙ ap (λ b. if b then causes.Done else causes.GuestEnded) ends)))
-    (cases_Bool (is_exit guest.end))
+run_by_parts : (fault : Option ℕ) (exits : Bool) → is_of_run (cause_by fault exits) ≡ true
+run_by_parts (Some slot) exits = refl
+run_by_parts None exits =
+    ⊎_elim (λ yes. ap (λ b. is_of_run (if b then causes.Done else causes.GuestEnded)) yes) (λ no. ap (λ b. is_of_run (if b then causes.Done else causes.GuestEnded)) no) (cases_Bool exits)
+
+pub of_run : (lists : Lists) (cause : Cause) → cause ≡ cause_of lists → is_of_run cause ≡ true
+of_run lists cause is = ap is_of_run is ∙ run_by_parts (first_fault lists.loads lists.served) (all_exit lists.guests)
 
 -- no cause of a run is one of words
-pub run_words : (cause : Cause) → IsOfRun cause → cause ≡ causes.Words → ⊥
-run_words cause (inl done) is = let h : causes.Done ≡ causes.Words = sym done ∙ is in cc
-run_words cause (inr (inl ended)) is = let h : causes.GuestEnded ≡ causes.Words = sym ended ∙ is in cc
-run_words cause (inr (inr sink)) is = let h : causes.Sink ≡ causes.Words = sym sink ∙ is in cc
+pub run_words : (cause : Cause) → is_of_run cause ≡ true → cause ≡ causes.Words → ⊥
+run_words cause run is = let h : is_of_run causes.Words ≡ true = sym (ap is_of_run is) ∙ run in cc
 
 pub words_only : (words : List (String Global)) (s : Source) (cause : Cause) → (cause ≢ causes.Memory → Refuses words s cause) → cause ≡ causes.Words → order_of words ≡ None
 words_only words s cause why is =
@@ -145,13 +158,32 @@ words_only words s cause why is =
 
 -- ---- fair calls
 
-ran_sink : (words : List (String Global)) (seen : Seen) (guests : List GuestEnd) (cause : Cause) → cause ≡ causes.Sink → Tells words seen cause guests → Rose seen.sink_before seen.sink_after
-ran_sink words seen guests cause is tells = (subst (λ c. Tells words seen c guests) is tells).failed
+-- with the shelf's fault its count rose
+failed_rose : (words : List (String Global)) (seen : Seen) (slot : ℕ) (lists : Lists) → Prints words seen (causes.Shelf slot) lists →
+    (name : List ℕ) × Rose (seen.shelf.faults_before name) (seen.shelf.faults_after name)
+failed_rose words seen slot lists p =
+    (slot_text (name_at (slots_in_job (job_in p.runs.plan)) slot), p.runs.caused slot (first_failed lists.loads lists.served slot (fault_of (first_fault lists.loads lists.served) (all_exit lists.guests) slot p.how)))
+  where
+    fault_of : (fault : Option ℕ) (exits : Bool) (slot : ℕ) → cause_by fault exits ≡ causes.Shelf slot → fault ≡ Some slot
+    fault_of (Some k) exits slot is = cc
+    fault_of None true slot is = cc
+    fault_of None false slot is = cc
 
-pub fair_ran : (words : List (String Global)) (seen : Seen) (guests : List GuestEnd) (cause : Cause) (status : ℕ) → status ≡ status_of cause → Tells words seen cause guests →
+fair_by : (words : List (String Global)) (seen : Seen) (lists : Lists) (cause : Cause) (status : ℕ) → status ≡ status_of cause → Tells words seen cause lists → is_of_run cause ≡ true → IsFair words seen → RanOrMemory status
+fair_by words seen lists causes.Done status is tells run fair = inl is
+fair_by words seen lists causes.GuestEnded status is tells run fair = inr (inl is)
+fair_by words seen lists causes.Sink status is tells run fair = absurd (fair.written tells.failed)
+fair_by words seen lists (causes.Shelf slot) status is tells run fair = let f = failed_rose words seen slot lists tells in absurd (fair.kept f.0 f.1)
+fair_by words seen lists causes.Memory status is tells run fair = inr (inr is)
+fair_by words seen lists causes.Words status is tells run fair = cc
+fair_by words seen lists (causes.Manifest e) status is tells run fair = cc
+fair_by words seen lists (causes.Unread name) status is tells run fair = cc
+fair_by words seen lists (causes.Long name) status is tells run fair = cc
+fair_by words seen lists (causes.Elf name e) status is tells run fair = cc
+fair_by words seen lists (causes.Slots n) status is tells run fair = cc
+
+pub fair_ran : (words : List (String Global)) (seen : Seen) (lists : Lists) (cause : Cause) (status : ℕ) → status ≡ status_of cause → Tells words seen cause lists →
     (IsSteady seen.source → Decides (outcome words (answers_of seen.source.content)) cause) → IsFair words seen → RanOrMemory status
-fair_ran words seen guests cause status is tells decided fair =
+fair_ran words seen lists cause status is tells decided fair =
     let d : Decides (Ok fair.plan) cause = subst (λ r. Decides r cause) fair.taken (decided fair.steady) in
-    ⊎_elim (λ memory. inr (inr (is ∙ ap status_of memory)))
-    (λ run. ⊎_elim (λ done. inl (is ∙ ap status_of done))
-    (λ more. ⊎_elim (λ ended. inr (inl (is ∙ ap status_of ended))) (λ sink. absurd (fair.written (ran_sink words seen guests cause sink tells))) more) run) d
+    ⊎_elim (λ memory. inr (inr (is ∙ ap status_of memory))) (λ run. fair_by words seen lists cause status is tells run fair) d

@@ -2,18 +2,21 @@
 use Rattle.std.proofs.Common.{◌≡◌, ◌≢◌, ℕ, suc, ◌<◌, ◌≤◌, List, [], ◌∷◌, length, if◌then◌else◌, Option, Some, None, Ok, Err, Result, refl, sym, ◌∙◌, ap, subst, inl, inr, ⊎_elim, ◌⊎◌, arith}
 use Rattle.std.specs.Prelude.{String}
 use Rattle.std.specs.declared.alloc.Global.{Global}
-use Rattle.std.specs.Option.{option_to_list}
+use Rattle.std.specs.Prelude.{nat_le}
+use Rattle.std.proofs.lemmas.Bool.{cases_Bool}
 use Rattle.std.proofs.lemmas.Bool.Decides.{leb_tells}
 use Rattle.outside.specs.Told.{Told, Untold, Absent, Holds, ForContent}
 use Rattle.plain_machine.specs.Program.{Program}
 use Rattle.manifest.specs.declared.error.ManifestErr.{ManifestErr}
-use Rattle.manifest.specs.Entries.{Listing, ModuleEntry, GuestEntry}
+use Rattle.manifest.specs.Entries.{Listing}
 use Rattle.manifest.specs.Manifest.{manifest_of}
 use Rattle.elf_map.specs.declared.error.ElfErr.{ElfErr}
 use Rattle.elf_map.specs.Elf.{elf_of}
+use Rattle.unit_set.specs.Slot.{Slot}
+use Rattle.slot_list.specs.Slots.{slots_of}
 use Rattle.host_text.specs.declared.cause.Cause.{Cause}
 use Rattle.host_text.specs.declared.cause.Cause.TheVariants as causes
-use Rattle.host.specs.Outcome.{Place, Manifest, File, Input, limit_of, Answer, Source, Agrees, Answers, AllAgree, ordered, listed, alone, each, taken, programs_of, outcome, answer_of, answers_of, IsSteady}
+use Rattle.host.specs.Outcome.{Place, Manifest, File, Input, limit_of, Answer, Source, Agrees, Answers, AllAgree, ordered, listed, each, taken, programs_of, input_names, limited, outcome, answer_of, answers_of, IsSteady}
 use Rattle.host.specs.Words.{Order, order_of}
 use Rattle.host.proofs.Steps.{Same, same_steps, fails_in}
 
@@ -61,8 +64,9 @@ same_answer s limit name (Err causes.Done) steady agrees = absurd agrees
 same_answer s limit name (Err causes.GuestEnded) steady agrees = absurd agrees
 same_answer s limit name (Err causes.Words) steady agrees = absurd agrees
 same_answer s limit name (Err (causes.Manifest e)) steady agrees = absurd agrees
-same_answer s limit name (Err causes.Unbuilt) steady agrees = absurd agrees
 same_answer s limit name (Err (causes.Elf n e)) steady agrees = absurd agrees
+same_answer s limit name (Err (causes.Slots n)) steady agrees = absurd agrees
+same_answer s limit name (Err (causes.Shelf n)) steady agrees = absurd agrees
 same_answer s limit name (Err causes.Sink) steady agrees = absurd agrees
 
 -- ---- the work
@@ -79,10 +83,9 @@ same_outcome words a b same =
     same_steps (ordered (order_of words)) (ordered (order_of words)) _ _ (inr refl) (λ order.
     same_steps (a Manifest order.file) (b Manifest order.file) _ _ (same Manifest order.file) (λ text.
     same_steps (listed (manifest_of text)) (listed (manifest_of text)) _ _ (inr refl) (λ listing.
-    same_steps (alone listing.modules listing.guests) (alone listing.modules listing.guests) _ _ (inr refl) (λ one.
     same_steps (each (λ i. a (File i)) listing.files) (each (λ i. b (File i)) listing.files) _ _ (same_each _ _ listing.files (λ i. same (File i))) (λ files.
-    same_steps (each (λ i. a (Input i)) (option_to_list one.1.input)) (each (λ i. b (Input i)) (option_to_list one.1.input)) _ _ (same_each _ _ (option_to_list one.1.input) (λ i. same (Input i))) (λ inputs.
-    inr refl))))))
+    same_steps (each (λ i. a (Input i)) (input_names listing.guests)) (each (λ i. b (Input i)) (input_names listing.guests)) _ _ (same_each _ _ (input_names listing.guests) (λ i. same (Input i))) (λ inputs.
+    inr refl)))))
 
 -- what the work comes to, where the files tell all, unless memory ran out
 pub same_told : (words : List (String Global)) (s : Source) (answers : Answers) → IsSteady s → AllAgree s answers → Same (outcome words answers) (outcome words (answers_of s.content))
@@ -94,10 +97,10 @@ same_told words s answers steady agree =
 -- What is true of each cause that comes behind the words.
 pub record Closed (P : Cause → Type 0) : Type 0 where
   pub manifest : (e : ManifestErr) → P (causes.Manifest e)
-  pub unbuilt : P causes.Unbuilt
   pub unread : (name : List ℕ) → P (causes.Unread name)
   pub long : (name : List ℕ) → P (causes.Long name)
   pub elf : (name : List ℕ) (e : ElfErr) → P (causes.Elf name e)
+  pub slots : (n : ℕ) → P (causes.Slots n)
   pub memory : P causes.Memory
 
 read_cause : (P : Cause → Type 0) → Closed P → (s : Source) (limit : ℕ) (name : List ℕ) (cause : Cause) → Agrees s limit name (Err cause) → P cause
@@ -108,8 +111,9 @@ read_cause P closed s limit name causes.Done agrees = absurd agrees
 read_cause P closed s limit name causes.GuestEnded agrees = absurd agrees
 read_cause P closed s limit name causes.Words agrees = absurd agrees
 read_cause P closed s limit name (causes.Manifest e) agrees = absurd agrees
-read_cause P closed s limit name causes.Unbuilt agrees = absurd agrees
 read_cause P closed s limit name (causes.Elf n e) agrees = absurd agrees
+read_cause P closed s limit name (causes.Slots n) agrees = absurd agrees
+read_cause P closed s limit name (causes.Shelf n) agrees = absurd agrees
 read_cause P closed s limit name causes.Sink agrees = absurd agrees
 
 each_cause : (P : Cause → Type 0) → Closed P → (s : Source) (limit : ℕ) (answers : ℕ → List ℕ → Answer) → ((i : ℕ) (name : List ℕ) → Agrees s limit name (answers i name)) →
@@ -132,12 +136,11 @@ listed_cause : (P : Cause → Type 0) → Closed P → (r : Result Listing Manif
 listed_cause P closed (Ok listing) cause is = cc
 listed_cause P closed (Err e) cause is = subst P (err_cause (causes.Manifest e) cause is) (closed.manifest e)
 
-alone_cause : (P : Cause → Type 0) → Closed P → (ms : List ModuleEntry) (gs : List GuestEntry) (cause : Cause) → alone ms gs ≡ Err cause → P cause
-alone_cause P closed [] gs cause is = subst P (err_cause causes.Unbuilt cause is) closed.unbuilt
-alone_cause P closed (m ∷ []) [] cause is = subst P (err_cause causes.Unbuilt cause is) closed.unbuilt
-alone_cause P closed (m ∷ []) (g ∷ []) cause is = cc
-alone_cause P closed (m ∷ []) (g ∷ h ∷ gs) cause is = subst P (err_cause causes.Unbuilt cause is) closed.unbuilt
-alone_cause P closed (m ∷ n ∷ ms) gs cause is = subst P (err_cause causes.Unbuilt cause is) closed.unbuilt
+limited_cause : (P : Cause → Type 0) → Closed P → (slots : List Slot) (cause : Cause) → limited slots ≡ Err cause → P cause
+limited_cause P closed slots cause is =
+    ⊎_elim (λ few. no_plan slots cause (sym (ap (λ b. if b then Ok slots else Err (causes.Slots (length slots))) few) ∙ is))
+    (λ many. subst P (err_cause (causes.Slots (length slots)) cause (sym (ap (λ b. if b then Ok slots else Err (causes.Slots (length slots))) many) ∙ is)) (closed.slots (length slots)))
+    (cases_Bool (nat_le (length slots) 64))
 
 taken_cause : (P : Cause → Type 0) → Closed P → (name : List ℕ) (r : Result Program ElfErr) (cause : Cause) → taken name r ≡ Err cause → P cause
 taken_cause P closed name (Ok program) cause is = cc
@@ -164,15 +167,15 @@ outcome_cause P closed words s answers agree cause is =
     ⊎_elim (λ none. inl (ordered_cause (order_of words) cause none))
     (λ a. inr (⊎_elim (λ text. read_cause P closed s 1048576 a.0.file cause (subst (Agrees s 1048576 a.0.file) text (agree Manifest a.0.file)))
     (λ b. ⊎_elim (listed_cause P closed (manifest_of b.0) cause)
-    (λ c. ⊎_elim (alone_cause P closed c.0.modules c.0.guests cause)
-    (λ d. ⊎_elim (each_cause P closed s 4194304 _ (λ i. agree (File i)) c.0.files cause)
-    (λ e. ⊎_elim (each_cause P closed s 1048576 _ (λ i. agree (Input i)) (option_to_list d.0.1.input) cause)
-    (λ f. ⊎_elim (programs_cause P closed c.0.files e.0 cause)
+    (λ c. ⊎_elim (each_cause P closed s 4194304 _ (λ i. agree (File i)) c.0.files cause)
+    (λ d. ⊎_elim (each_cause P closed s 1048576 _ (λ i. agree (Input i)) (input_names c.0.guests) cause)
+    (λ e. ⊎_elim (programs_cause P closed c.0.files d.0 cause)
+    (λ f. ⊎_elim (limited_cause P closed (slots_of c.0.modules c.0.guests f.0) cause)
     (λ g. no_plan _ cause g.1)
-    (fails_in (programs_of c.0.files e.0) _ cause f.1))
-    (fails_in (each (λ i. answers (Input i)) (option_to_list d.0.1.input)) _ cause e.1))
-    (fails_in (each (λ i. answers (File i)) c.0.files) _ cause d.1))
-    (fails_in (alone c.0.modules c.0.guests) _ cause c.1))
+    (fails_in (limited (slots_of c.0.modules c.0.guests f.0)) _ cause f.1))
+    (fails_in (programs_of c.0.files d.0) _ cause e.1))
+    (fails_in (each (λ i. answers (Input i)) (input_names c.0.guests)) _ cause d.1))
+    (fails_in (each (λ i. answers (File i)) c.0.files) _ cause c.1))
     (fails_in (listed (manifest_of b.0)) _ cause b.1))
     (fails_in (answers Manifest a.0.file) _ cause a.1)))
     (fails_in (ordered (order_of words)) _ cause is)
@@ -185,10 +188,10 @@ pub just_words : (words : List (String Global)) (s : Source) (answers : Answers)
 just_words words s answers agree is =
     let closed : Closed not_words = record {
       manifest = λ e is. cc;
-      unbuilt = λ is. cc;
       unread = λ n is. cc;
       long = λ n is. cc;
       elf = λ n e is. cc;
+      slots = λ n is. cc;
       memory = λ is. cc;
     } in
     ⊎_elim (λ none. none.0) (λ other. absurd (other refl)) (outcome_cause not_words closed words s answers agree causes.Words is)
@@ -200,7 +203,8 @@ IsRefusal causes.GuestEnded = ⊥
 IsRefusal causes.Sink = ⊥
 IsRefusal causes.Words = Unit {0}
 IsRefusal (causes.Manifest e) = Unit {0}
-IsRefusal causes.Unbuilt = Unit {0}
+IsRefusal (causes.Slots n) = Unit {0}
+IsRefusal (causes.Shelf n) = ⊥
 IsRefusal (causes.Unread name) = Unit {0}
 IsRefusal (causes.Long name) = Unit {0}
 IsRefusal (causes.Elf name e) = Unit {0}
@@ -208,5 +212,5 @@ IsRefusal causes.Memory = Unit {0}
 
 pub just_refusals : (words : List (String Global)) (s : Source) (answers : Answers) → AllAgree s answers → (cause : Cause) → outcome words answers ≡ Err cause → IsRefusal cause
 just_refusals words s answers agree cause is =
-    let closed : Closed IsRefusal = record { manifest = λ e. tt; unbuilt = tt; unread = λ n. tt; long = λ n. tt; elf = λ n e. tt; memory = tt } in
+    let closed : Closed IsRefusal = record { manifest = λ e. tt; unread = λ n. tt; long = λ n. tt; elf = λ n e. tt; slots = λ n. tt; memory = tt } in
     ⊎_elim (λ none. subst IsRefusal (sym none.1) tt) (λ other. other) (outcome_cause IsRefusal closed words s answers agree cause is)

@@ -1,22 +1,24 @@
 -- What a call of the host comes to, by what its reads answer.
 use Rattle.std.specs.Prelude.{◌≡◌, ◌≢◌, ℕ, suc, ◌<◌, ◌≤◌, nat_le, List, [], ◌∷◌, length, if◌then◌else◌, Option, Some, None, Result, Ok, Err, String}
+use Rattle.std.specs.List.{filter_map}
 use Rattle.std.specs.declared.alloc.Global.{Global}
-use Rattle.std.specs.Option.{option_to_list}
 use Rattle.outside.specs.Faults.{Rose}
 use Rattle.outside.specs.Told.{Told, Untold, Absent, Holds, ForContent}
 use Rattle.plain_machine.specs.Program.{Program}
 use Rattle.manifest.specs.declared.error.ManifestErr.{ManifestErr}
-use Rattle.manifest.specs.Entries.{Listing, ModuleEntry, GuestEntry}
+use Rattle.manifest.specs.Entries.{Listing, GuestEntry}
 use Rattle.manifest.specs.Manifest.{manifest_of}
 use Rattle.elf_map.specs.declared.error.ElfErr.{ElfErr}
 use Rattle.elf_map.specs.Elf.{elf_of}
+use Rattle.unit_set.specs.Slot.{Slot}
+use Rattle.slot_list.specs.Slots.{slots_of}
 use Rattle.host_text.specs.declared.cause.Cause.{Cause}
 use Rattle.host_text.specs.declared.cause.Cause.TheVariants as causes
 use Rattle.host.specs.Words.{Order, order_of}
 
 -- ---- reads
 
--- what a read is for: the manifest, the file of this number, or the input of the guest of this number
+-- what a read is for: the manifest, the file of this number, or of the inputs that guests have the one of this number
 pub data Place : Type 0 where
   Manifest : Place
   File : ℕ → Place
@@ -49,9 +51,10 @@ Agrees s limit name (Err causes.Done) = ⊥
 Agrees s limit name (Err causes.GuestEnded) = ⊥
 Agrees s limit name (Err causes.Words) = ⊥
 Agrees s limit name (Err (causes.Manifest e)) = ⊥
-Agrees s limit name (Err causes.Unbuilt) = ⊥
 Agrees s limit name (Err (causes.Elf n e)) = ⊥
+Agrees s limit name (Err (causes.Slots count)) = ⊥
 Agrees s limit name (Err causes.Sink) = ⊥
+Agrees s limit name (Err (causes.Shelf slot)) = ⊥
 
 -- the answers to all reads
 abbrev pub Answers : Type 0
@@ -76,11 +79,6 @@ abbrev pub listed : Result Listing ManifestErr → Result Listing Cause
 listed (Ok listing) = Ok listing
 listed (Err e) = Err (causes.Manifest e)
 
--- the one module, and the one guest
-abbrev pub alone : List ModuleEntry → List GuestEntry → Result (ModuleEntry × GuestEntry) Cause
-alone (m ∷ []) (g ∷ []) = Ok (m, g)
-alone _ _ = Err causes.Unbuilt
-
 -- what is read of these names, in order
 unfoldable pub each : (ℕ → List ℕ → Answer) → List (List ℕ) → Result (List (List ℕ)) Cause
 each answers [] = Ok []
@@ -102,12 +100,33 @@ programs_of (name ∷ names) (bytes ∷ files) = do
   rest ← programs_of names files
   Ok (program ∷ rest)
 
--- What is to be run: what the words ask, a module and a guest, the programs of all files, and what was read of the
--- guest's input.
+-- the names of the inputs that guests have, in order
+abbrev pub input_names : List GuestEntry → List (List ℕ)
+input_names guests = filter_map (λ g. g.input) guests
+
+abbrev pub input_or : Option (List ℕ) → List (List ℕ) → List ℕ
+input_or None read = []
+input_or (Some name) [] = []
+input_or (Some name) (bytes ∷ read) = bytes
+
+abbrev pub behind_input : Option (List ℕ) → List (List ℕ) → List (List ℕ)
+behind_input None read = read
+behind_input (Some name) [] = []
+behind_input (Some name) (bytes ∷ read) = read
+
+-- for each guest what was read of its input, where these were read one after the other; one without an input has none
+abbrev pub given : List GuestEntry → List (List ℕ) → List (List ℕ)
+given [] read = []
+given (g ∷ guests) read = input_or g.input read ∷ given guests (behind_input g.input read)
+
+-- 64 slots at most
+abbrev pub limited : List Slot → Result (List Slot) Cause
+limited slots = if nat_le (length slots) 64 then Ok slots else Err (causes.Slots (length slots))
+
+-- What is to be run: what the words ask, a manifest, the programs of its files, and what was read of each guest's input.
 pub record Plan : Type 0 where
   pub order : Order
-  pub one : ModuleEntry
-  pub guest : GuestEntry
+  pub listing : Listing
   pub programs : List Program
   pub inputs : List (List ℕ)
 
@@ -117,11 +136,11 @@ outcome words answers = do
   order ← ordered (order_of words)
   text ← answers Manifest order.file
   listing ← listed (manifest_of text)
-  one ← alone listing.modules listing.guests
   files ← each (λ i. answers (File i)) listing.files
-  inputs ← each (λ i. answers (Input i)) (option_to_list one.1.input)
+  inputs ← each (λ i. answers (Input i)) (input_names listing.guests)
   programs ← programs_of listing.files files
-  Ok (record { order = order; one = one.0; guest = one.1; programs = programs; inputs = inputs })
+  slots ← limited (slots_of listing.modules listing.guests programs)
+  Ok (record { order = order; listing = listing; programs = programs; inputs = given listing.guests inputs })
 
 -- ---- files that tell all
 

@@ -17,6 +17,15 @@ Fails s limit [] cause = ⊥
 Fails s limit (name ∷ names) cause =
     Agrees s limit name (Err cause) ⊎ ((bytes : List ℕ) × Agrees s limit name (Ok bytes) × Fails s limit names cause)
 
+-- files were read, and then inputs
+pub record ReadsBoth (s : Source) (files inputs : List (List ℕ)) (contents read : List (List ℕ)) : Type 0 where
+  pub files_read : AreRead s 4194304 files contents
+  pub inputs_read : AreRead s 1048576 inputs read
+
+-- a file, or behind the files an input, was not read for this reason
+abbrev pub ReadsFail : Source → List (List ℕ) → List (List ℕ) → Cause → Type 0
+ReadsFail s files inputs cause = Fails s 4194304 files cause ⊎ ((contents : List (List ℕ)) × AreRead s 4194304 files contents × Fails s 1048576 inputs cause)
+
 -- an answer that is what it has to be. Memory may run out
 abbrev pub Gives : {X Y : Type 0} → (X → Y) → Result Y Cause → Result X Cause → Type 0
 Gives seen meant (Ok x) = meant ≡ Ok (seen x)

@@ -1,56 +1,28 @@
 // How a call of the host ended.
 ghost use Rattle.std.specs.Prelude.{◌≡◌};
 
-use cc_base::Name;
-use guest_loop::Counts;
+use guest_loop::GuestEnd;
 use host_text::Cause;
-use plain_machine::End;
+use publish::{Loaded, Pub};
+use registry::Entry;
 use std::marker::Model;
 
-/// Numbers of files, in order.
-#[derive(Debug, Drop)]
-pub struct FileNumbers {
-    numbers: Vec<u32>,
-}
-
-impl Model for FileNumbers {
-    ghost use Rattle.std.specs.Prelude.{List, ℕ};
-
-    ghost Value = { List ℕ };
-
-    ghost view = { λ f. f.numbers.items };
-}
-
-impl FileNumbers {
-    /// The numbers of a vector, which is kept. It takes no memory.
-    pub fn from_vec(numbers: Vec<u32>) -> Self
-        ensures { result ≡ numbers.items }
-    {
-        FileNumbers { numbers }
-    }
-
-    /// The numbers.
-    pub fn items(&self) -> &[u32]
-        ensures { result.now ≡ self.now }
-    {
-        &self.numbers
-    }
-}
-
-/// How a guest ended. `maps` are the files that its map answers were: first that of its program, then one for each call
-/// that mapped a module. `counts` tells of its blocks how many began and were built.
-#[derive(Drop)]
-pub struct GuestEnd {
-    pub name: Name,
-    pub end: End,
-    pub maps: FileNumbers,
-    pub counts: Counts,
-}
-
-/// How a call ended: its exit status, why, and the guests that were run.
+/// How a call ended: its exit status and why; and of a run how each slot was loaded, how each guest ended, the journal of all
+/// calls, and the publications, each in order. Where nothing was run these are empty.
 #[derive(Drop)]
 pub struct Ended {
     pub status: u8,
     pub cause: Cause,
+    pub loads: Vec<Loaded>,
     pub guests: Vec<GuestEnd>,
+    pub journal: Vec<Entry>,
+    pub served: Vec<Pub>,
+}
+
+impl Model for Ended {
+    ghost use Rattle.host.specs.Ended.{Ended as EndedParts};
+
+    ghost Value = { EndedParts };
+
+    ghost view = { λ e. record { status = e.status; cause = e.cause; lists = record { loads = e.loads.items; guests = e.guests.items; journal = e.journal.items; served = e.served.items } } };
 }

@@ -1,27 +1,28 @@
-// All that comes before the text is written.
-ghost use Rattle.std.specs.Prelude.{◌≡◌, ◌≢◌, ◌<◌, ◌≤◌, ◌∷◌, [], ◌++◌, ℕ, List, Some, None, true, length, All, IfOk, IfErr, IfSome};
-ghost use Rattle.std.specs.Option.{option_to_list};
+// All that comes before the guests run.
+ghost use Rattle.std.specs.Prelude.{◌≡◌, ◌≢◌, ◌≤◌, ℕ, List, Some, None, Err, true, length, All, IfOk, IfErr};
 ghost use Rattle.manifest.specs.Names.{is_file_name};
-ghost use Rattle.manifest.specs.Manifest.{manifest_of};
+ghost use Rattle.manifest.specs.Manifest.{manifest_of, module_names};
 ghost use Rattle.elf_map.specs.Elf.{elf_of};
-ghost use Rattle.host.specs.Answer.{cause_of, first_input, IsRunOf, Refuses, Runs};
-ghost use Rattle.host.specs.Outcome.{alone, listed, programs_of, taken};
-ghost use Rattle.host.specs.Reading.{AreRead, Fails, Gives};
+ghost use Rattle.slot_list.specs.Laws.{AreDistinct};
+ghost use Rattle.slot_list.specs.Slots.{slots_of};
+ghost use Rattle.host.specs.Answer.{Comes, Refuses};
+ghost use Rattle.host.specs.Outcome.{given, input_names, limited, listed, programs_of, taken};
+ghost use Rattle.host.specs.Reading.{Gives, ReadsBoth, ReadsFail};
 ghost use Rattle.host.specs.Seen.{source_of};
-ghost use Rattle.host.specs.Words.{meant, order_of};
-ghost use Rattle.host.specs.declared.ended.GuestEnd.{GuestEnd};
+ghost use Rattle.host.specs.Prepared.{IsReady, plan_in};
+ghost use Rattle.host.specs.Words.{order_of};
 
-use crate::ended::{FileNumbers, GuestEnd};
 use crate::reading::{read_all, read_file};
 use crate::words::{Order, order_of};
 use cc_base::{Blob, Name};
 use elf_map::{Elf, ElfErr};
-use guest_loop::{Module, Setup, run_guest};
-use host_text::{Cause, text_of};
-use manifest::{GuestRow, Manifest, ManifestErr, ModuleRow};
+use host_text::Cause;
+use manifest::{GuestRow, Manifest, ManifestErr};
 use outside::Files;
-use plain_machine::End;
+use slot_list::laws::modules_have_own_names;
+use slot_list::{SlotsErr, slots_of};
 use std::alloc::{AllocError, Global};
+use unit_set::SlotName;
 
 /// The most bytes of a manifest, of a file and of an input.
 const MOST_MANIFEST: u32 = 1_048_576;
@@ -30,33 +31,45 @@ const MOST_FILE: u32 = 4_194_304;
 
 const MOST_INPUT: u32 = 1_048_576;
 
-/// A run that is done and not yet printed.
+/// A run that may begin: what the words ask, the manifest, the programs of its files, what each of its guests may read, and
+/// its slots.
 #[derive(Drop)]
-pub struct Prepared {
-    pub text: Vec<u8>,
-    pub cause: Cause,
-    pub guests: Vec<GuestEnd>,
+pub struct Prepared<'a> {
+    pub order: Order<'a>,
+    pub manifest: Manifest,
+    pub elfs: Vec<Elf>,
+    pub inputs: Vec<Blob>,
+    pub slots: Vec<SlotName>,
 }
 
-/// Reads what the words name, runs its guest, and makes its text.
-pub fn prepare<F: Files>(alloc: Global, words: &[String], files: &mut F) -> Result<Prepared, Cause>
-    ensures done { IfOk result (λ p. (guest : GuestEnd) × (p.guests.items ≡ guest ∷ []) × (p.cause ≡ cause_of guest.end)
-        × Runs words.now (source_of F.content F.faults files.old files.new) guest p.text.items) }
+/// Reads what the words name.
+pub fn prepare<'a, F: Files>(
+    alloc: Global,
+    words: &'a [String],
+    files: &mut F,
+) -> Result<Prepared<'a>, Cause>
+    ensures done { IfOk result (λ p. Comes words.now (source_of F.content F.faults files.old files.new) (plan_in p)) }
+    ensures ready { IfOk result IsReady }
     ensures refused { IfErr result (λ cause. cause ≢ Cause.Memory → Refuses words.now (source_of F.content F.faults files.old files.new) cause) }
     ensures words { order_of words.now ≡ None → result ≡ Err Cause.Words }
 {
+    modules_have_own_names();
     let Some(order) = order_of(words) else {
         return Err(Cause::Words);
     };
     let text = read_file(alloc, order.file, MOST_MANIFEST, files)?;
     let manifest = manifest_in(alloc, text.items())?;
-    let Some((module, guest)) = alone(&manifest) else {
-        return Err(Cause::Unbuilt);
-    };
-    let contents = read_all(alloc, manifest.files(), MOST_FILE, files)?;
-    let input = read_input(alloc, guest, files)?;
+    let (contents, read) = read_contents(alloc, &manifest, files)?;
     let elfs = elfs_in(alloc, manifest.files(), &contents)?;
-    Ok(run(alloc, order, &elfs, module, guest, input)?)
+    let slots = slots_in(alloc, &manifest, &elfs)?;
+    let inputs = given(alloc, manifest.guests(), read)?;
+    Ok(Prepared {
+        order,
+        manifest,
+        elfs,
+        inputs,
+        slots,
+    })
 }
 
 // What a text says as a manifest.
@@ -70,29 +83,52 @@ fn manifest_in(alloc: Global, text: &[u8]) -> Result<Manifest, Cause>
     }
 }
 
-// The one module and the one guest.
-fn alone(manifest: &Manifest) -> Option<(&ModuleRow, &GuestRow)>
-    ensures none { result ≡ None → alone manifest.now.modules manifest.now.guests ≡ Err Cause.Unbuilt }
-    ensures some { IfSome result (λ one. alone manifest.now.modules manifest.now.guests ≡ Ok (one.0.now, one.1.now)) }
-    ensures file { IfSome result (λ one. one.0.now.file < length manifest.now.files) }
-{
-    match (manifest.modules(), manifest.guests()) {
-        ([module], [guest]) => Some((module, guest)),
-        _ => None,
-    }
-}
-
-// What is read of the guest's input, if it has one.
-fn read_input<F: Files>(alloc: Global, guest: &GuestRow, files: &mut F) -> Result<Vec<Blob>, Cause>
-    ensures read { IfOk result (λ all. AreRead (source_of F.content F.faults files.old files.new) 1048576 (option_to_list guest.now.input) all.items) }
-    ensures failed { IfErr result (Fails (source_of F.content F.faults files.old files.new) 1048576 (option_to_list guest.now.input)) }
+// Reads the files of a manifest, and then the inputs of its guests.
+fn read_contents<F: Files>(
+    alloc: Global,
+    manifest: &Manifest,
+    files: &mut F,
+) -> Result<(Vec<Blob>, Vec<Blob>), Cause>
+    ensures read { IfOk result (λ both. ReadsBoth (source_of F.content F.faults files.old files.new) manifest.now.files (input_names manifest.now.guests) both.0.items both.1.items) }
+    ensures failed { IfErr result (λ cause. cause ≢ Cause.Memory → ReadsFail (source_of F.content F.faults files.old files.new) manifest.now.files (input_names manifest.now.guests) cause) }
     ensures kept { (n : List ℕ) → F.content files.new n ≡ F.content files.old n }
     ensures never_falls { (n : List ℕ) → F.faults files.old n ≤ F.faults files.new n }
 {
-    match &guest.input {
-        Some(name) => read_all(alloc, std::slice::from_ref(name), MOST_INPUT, files),
-        None => Ok(Vec::new(alloc)),
+    let contents = read_all(alloc, manifest.files(), MOST_FILE, files)?;
+    let names = input_names(alloc, manifest.guests())?;
+    let read = read_all(alloc, &names, MOST_INPUT, files)?;
+    Ok((contents, read))
+}
+
+// The names of the inputs that guests have, in order.
+fn input_names(alloc: Global, guests: &[GuestRow]) -> Result<Vec<Name>, AllocError>
+    ensures names { IfOk result (λ names. names.items ≡ input_names guests.now) }
+    ensures spelled { IfOk result (λ names. All (λ n. is_file_name n ≡ true) names.items) }
+{
+    let mut names = Vec::new(alloc);
+    for guest in guests {
+        if let Some(name) = &guest.input {
+            names.push(name.copy(alloc)?)?;
+        }
     }
+    Ok(names)
+}
+
+// For each guest what was read of its input, which is nothing where it has none.
+fn given(alloc: Global, guests: &[GuestRow], read: Vec<Blob>) -> Result<Vec<Blob>, AllocError>
+    ensures { IfOk result (λ inputs. inputs.items ≡ given guests.now read.items) }
+{
+    let mut inputs = Vec::new(alloc);
+    let mut rest = read.into_iter();
+    for guest in guests {
+        let next = if guest.input.is_some() {
+            rest.next()
+        } else {
+            None
+        };
+        inputs.push(next.unwrap_or_else(|| Blob::from_vec(Vec::new(alloc))))?;
+    }
+    Ok(inputs)
 }
 
 // The programs of the files, or the first that is refused.
@@ -119,66 +155,13 @@ fn elf_in(alloc: Global, name: &Name, bytes: &[u8]) -> Result<Elf, Cause>
     }
 }
 
-// Runs the guest, and makes its text.
-fn run(
-    alloc: Global,
-    order: Order<'_>,
-    elfs: &[Elf],
-    module: &ModuleRow,
-    guest: &GuestRow,
-    input: Vec<Blob>,
-) -> Result<Prepared, AllocError>
-    requires { «module».now.file < length elfs.now }
-    ensures { IfOk result (λ p. (end : GuestEnd) × (p.guests.items ≡ end ∷ []) × (p.cause ≡ cause_of end.end)
-        × IsRunOf (record { order = meant order.entry; one = «module».now; guest = guest.now; programs = elfs.now; inputs = input.items }) end p.text.items) }
+// The slots of the run, or how many there are where these are too many.
+fn slots_in(alloc: Global, manifest: &Manifest, elfs: &[Elf]) -> Result<Vec<SlotName>, Cause>
+    ensures { Gives (λ slots. slots.items) (limited (slots_of manifest.now.modules manifest.now.guests elfs.now)) result }
 {
-    let setup = Setup {
-        isa: guest.isa,
-        tool: guest.tool,
-        max: guest.max,
-        fuel: guest.fuel,
-        pool: guest.pool,
-        stack: guest.stack,
-        input: first_of(alloc, input),
-    };
-    let placed = Module {
-        base: module.base,
-        file: module.file,
-        name: module.name.copy(alloc)?,
-    };
-    let ran = run_guest(alloc, elfs, &placed, setup)?;
-    let text = text_of(alloc, &guest.name, &ran, order.counts)?;
-    let cause = cause_of(ran.end);
-    let mut guests = Vec::new(alloc);
-    guests.push(GuestEnd {
-        name: guest.name.copy(alloc)?,
-        end: ran.end,
-        maps: FileNumbers::from_vec(ran.maps),
-        counts: ran.counts,
-    })?;
-    Ok(Prepared {
-        text,
-        cause,
-        guests,
-    })
-}
-
-// The cause of a run that ended so.
-fn cause_of(end: End) -> Cause
-    ensures { result ≡ cause_of end }
-{
-    match end {
-        End::Exit(_) => Cause::Done,
-        End::Fault { .. } | End::Fuel | End::Unplaced => Cause::GuestEnded,
-    }
-}
-
-// The first of these inputs, or none.
-fn first_of(alloc: Global, inputs: Vec<Blob>) -> Blob
-    ensures { result ≡ first_input inputs.items }
-{
-    match inputs.into_iter().next() {
-        Some(input) => input,
-        None => Blob::from_vec(Vec::new(alloc)),
+    match slots_of(alloc, manifest.modules(), manifest.guests(), elfs) {
+        Ok(slots) => Ok(slots),
+        Err(SlotsErr::TooMany(count)) => Err(Cause::Slots(count)),
+        Err(SlotsErr::Memory) => Err(Cause::Memory),
     }
 }

@@ -1,13 +1,14 @@
 // The words of a call.
-ghost use Rattle.std.specs.Prelude.{◌≡◌, codes, IfSome, None, Some};
+ghost use Rattle.std.specs.Prelude.{◌≡◌, ◌||◌, codes, IfSome, None, Some};
 ghost use Rattle.std.specs.Str.{bytes_eq};
 ghost use Rattle.host.specs.Words.{are_options, has, meant, order_of};
 
-/// What the words ask: the manifest whose guest is run, and whether the counts of that guest are told.
+/// What the words ask: the manifest whose guests are run, and whether their counts and the journal are told.
 #[derive(Clone, Copy, Debug)]
 pub struct Order<'a> {
     pub file: &'a str,
     pub counts: bool,
+    pub journal: bool,
 }
 
 /// What the words ask, where they are `run` and a file, and behind them options in any order, each at most once.
@@ -20,6 +21,7 @@ pub fn order_of(words: &[String]) -> Option<Order<'_>>
             Some(Order {
                 file: file.as_str(),
                 counts: has(options, "--counts"),
+                journal: has(options, "--journal"),
             })
         }
         _ => None,
@@ -39,9 +41,9 @@ fn are_options(words: &[String]) -> bool
 }
 
 fn is_option(word: &str) -> bool
-    ensures { result ≡ bytes_eq word.now (codes "--counts") }
+    ensures { result ≡ (bytes_eq word.now (codes "--counts") || bytes_eq word.now (codes "--journal")) }
 {
-    word == "--counts"
+    word == "--counts" || word == "--journal"
 }
 
 // Whether this text is one of the words.

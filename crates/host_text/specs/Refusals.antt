@@ -18,7 +18,8 @@ status_of (causes.Long name) = 4
 status_of (causes.Elf name e) = 5
 status_of causes.Memory = 6
 status_of causes.Sink = 7
-status_of causes.Unbuilt = 9
+status_of (causes.Slots count) = 5
+status_of (causes.Shelf slot) = 8
 
 -- which rule of a manifest fails
 abbrev pub manifest_word : ManifestErr → List ℕ
@@ -75,15 +76,19 @@ elf_number _ = []
 abbrev pub elf_line : List ℕ → ElfErr → List ℕ
 elf_line name e = codes "error elf " ++ name ++ elf_word e ++ elf_number e ++ codes "\n"
 
+abbrev pub slots_line : ℕ → List ℕ
+slots_line count = codes "error slots " ++ decimal count ++ codes "\n"
+
 -- the line that tells why nothing was run
 abbrev pub refusal_text : Cause → List ℕ
 refusal_text causes.Words = codes "error words\n"
 refusal_text (causes.Manifest e) = manifest_line e
-refusal_text causes.Unbuilt = codes "error unbuilt\n"
 refusal_text (causes.Unread name) = codes "error file " ++ name ++ codes " unread\n"
 refusal_text (causes.Long name) = codes "error file " ++ name ++ codes " long\n"
 refusal_text (causes.Elf name e) = elf_line name e
+refusal_text (causes.Slots count) = slots_line count
 refusal_text causes.Memory = []
 refusal_text causes.Done = []
 refusal_text causes.GuestEnded = []
 refusal_text causes.Sink = []
+refusal_text (causes.Shelf slot) = []

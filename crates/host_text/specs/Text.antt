@@ -10,6 +10,8 @@ use Rattle.plain_machine.specs.declared.ends.End.TheVariants as ends
 use Rattle.report.specs.Rows.{Rows}
 use Rattle.report.specs.Text.{hex, report_text}
 use Rattle.block_ledger.specs.Ledger.{Counts}
+use Rattle.guest_loop.specs.declared.guest.Ran.{Ran}
+use Rattle.guest_loop.specs.Guest.{counts_of}
 
 abbrev pub kind_text : Kind → List ℕ
 kind_text kinds.Fetch = codes "fetch"
@@ -50,3 +52,7 @@ counts_text asked c = if asked then counts_line c else []
 -- a guest by its name: its end, its output, the rows of its report, and its counts where they are asked for
 abbrev pub text_of : List ℕ → End → List ℕ → Rows → Bool → Counts → List ℕ
 text_of name end output r asked c = codes "guest " ++ name ++ end_line end (length output) ++ output ++ report_line r ++ report_text r ++ counts_text asked c
+
+-- a guest that ran
+abbrev pub text_in : Bool → Ran → List ℕ
+text_in asked ran = text_of ran.end.name ran.end.end ran.output ran.report asked (counts_of ran.end.counts)

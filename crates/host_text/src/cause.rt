@@ -15,22 +15,24 @@ pub enum Cause {
     Done,
     /// A guest ended in another way.
     GuestEnded,
-    /// The words are not `run FILE`, with `--counts` behind it or without.
+    /// The words are not `run FILE`, with options behind it or without.
     Words,
     /// FILE is no manifest, by this first failing rule.
     Manifest(ManifestErr),
-    /// The manifest has more than one guest, or more than one module.
-    Unbuilt,
     /// The file of this name could not be read.
     Unread(Name),
     /// The file of this name is too long.
     Long(Name),
     /// The file of this name is no ELF file that is taken, by this first failing rule.
     Elf(Name, ElfErr),
+    /// So many slots arise, which are over 64.
+    Slots(u32),
     /// Memory ran out.
     Memory,
     /// The text could not be written whole.
     Sink,
+    /// The text is whole, and the shelf failed on this slot, the first such one, as it was loaded or published.
+    Shelf(u32),
 }
 
 impl From<AllocError> for Cause {
@@ -59,9 +61,9 @@ pub fn status_of(cause: &Cause) -> u8
         Cause::Words => 2,
         Cause::Manifest(_) => 3,
         Cause::Unread(_) | Cause::Long(_) => 4,
-        Cause::Elf(_, _) => 5,
+        Cause::Elf(_, _) | Cause::Slots(_) => 5,
         Cause::Memory => 6,
         Cause::Sink => 7,
-        Cause::Unbuilt => 9,
+        Cause::Shelf(_) => 8,
     }
 }

@@ -2,7 +2,7 @@
 ghost use Rattle.std.specs.Prelude.{◌≡◌, ◌++◌, ℕ, take, codes, OnOk, OnErr, IsErr};
 ghost use Rattle.outside.specs.Faults.{Rose};
 ghost use Rattle.outside.specs.Sink.{with_bytes};
-ghost use Rattle.host_text.specs.Refusals.{elf_word, elf_number, manifest_word, manifest_key, manifest_line, elf_line, refusal_text};
+ghost use Rattle.host_text.specs.Refusals.{elf_word, elf_number, manifest_word, manifest_key, manifest_line, elf_line, slots_line, refusal_text};
 
 use crate::cause::Cause;
 use crate::printing::{print, print_five};
@@ -21,11 +21,13 @@ pub fn refuse<K: Sink>(out: &mut K, cause: &Cause) -> Result<(), SinkFailed>
     match cause {
         Cause::Words => print(out, b"error words\n"),
         Cause::Manifest(e) => refuse_manifest(out, e),
-        Cause::Unbuilt => print(out, b"error unbuilt\n"),
         Cause::Unread(name) => refuse_file(out, name, b" unread\n"),
         Cause::Long(name) => refuse_file(out, name, b" long\n"),
         Cause::Elf(name, e) => refuse_elf(out, name, *e),
-        Cause::Done | Cause::GuestEnded | Cause::Memory | Cause::Sink => print(out, b""),
+        Cause::Slots(count) => refuse_slots(out, *count),
+        Cause::Done | Cause::GuestEnded | Cause::Memory | Cause::Sink | Cause::Shelf(_) => {
+            print(out, b"")
+        }
     }
 }
 
@@ -93,6 +95,16 @@ fn refuse_elf<K: Sink>(out: &mut K, name: &Name, e: ElfErr) -> Result<(), SinkFa
         number.as_bytes(),
         b"\n",
     )
+}
+
+fn refuse_slots<K: Sink>(out: &mut K, count: u32) -> Result<(), SinkFailed>
+    ensures whole { OnOk result (K.written out.new ≡ with_bytes (K.written out.old) (slots_line count)) }
+    ensures front { OnErr result ((n : ℕ) × (K.written out.new ≡ with_bytes (K.written out.old) (take n (slots_line count)))) }
+    ensures failed { IsErr result → Rose (K.faults out.old) (K.faults out.new) }
+{
+    let mut buffer = Buffer::new();
+    let number = buffer.format(count);
+    print_five(out, b"", b"", b"error slots ", number.as_bytes(), b"\n")
 }
 
 fn elf_number<'a>(buffer: &'a mut Buffer, e: ElfErr) -> &'a str

@@ -1,37 +1,43 @@
 // The printed text of a guest.
 ghost use Rattle.std.specs.Prelude.{◌≡◌, ◌++◌, length, string_bytes, IfOk, OnOk};
+ghost use Rattle.std.specs.List.{flat_map};
 ghost use Rattle.std.specs.FinMap as fin;
-ghost use Rattle.guest_loop.specs.Plain.{counts_of};
-ghost use Rattle.host_text.specs.Text.{end_text, kind_text, tool_text, end_line, report_line, counts_line, text_of};
+ghost use Rattle.guest_loop.specs.Guest.{counts_of};
+ghost use Rattle.host_text.specs.Text.{end_text, kind_text, tool_text, end_line, report_line, counts_line, text_of, text_in};
 
-use cc_base::Name;
 use guest_loop::{Counts, Ran};
 use plain_machine::{End, Kind};
 use probe_tools::Tool;
 use report::{Report, push_hex};
 use std::alloc::{AllocError, Global};
 
+/// What a run prints of its guests, one behind the other.
+pub fn texts_of(alloc: Global, rans: &[Ran], with_counts: bool) -> Result<Vec<u8>, AllocError>
+    ensures { IfOk result (λ text. text.items ≡ flat_map (text_in with_counts) rans.now) }
+{
+    let mut text = Vec::new(alloc);
+    for ran in rans {
+        text.extend_from_slice(&text_of(alloc, ran, with_counts)?)?;
+    }
+    Ok(text)
+}
+
 /// What a run prints of a guest: how it ended, its output, its report, and what was counted of its blocks, where that is
 /// asked for.
-pub fn text_of(
-    alloc: Global,
-    name: &Name,
-    ran: &Ran,
-    with_counts: bool,
-) -> Result<Vec<u8>, AllocError>
-    ensures { IfOk result (λ text. text.items ≡ text_of name.now ran.now.end ran.now.output ran.now.report with_counts (counts_of ran.now.counts)) }
+pub fn text_of(alloc: Global, ran: &Ran, with_counts: bool) -> Result<Vec<u8>, AllocError>
+    ensures { IfOk result (λ text. text.items ≡ text_in with_counts ran.now) }
 {
     let output = ran.output.items();
-    let end = end_line(alloc, ran.end, output.len())?;
+    let end = end_line(alloc, ran.end.end, output.len())?;
     let report = report_line(alloc, &ran.report)?;
     let mut text = Vec::from_slice(alloc, b"guest ")?;
-    text.extend_from_slice(name.items())?;
+    text.extend_from_slice(ran.end.name.items())?;
     text.extend_from_slice(end.as_bytes())?;
     text.extend_from_slice(output)?;
     text.extend_from_slice(report.as_bytes())?;
     ran.report.write_text(alloc, &mut text)?;
     if with_counts {
-        text.extend_from_slice(counts_line(alloc, ran.counts)?.as_bytes())?;
+        text.extend_from_slice(counts_line(alloc, ran.end.counts)?.as_bytes())?;
     }
     Ok(text)
 }

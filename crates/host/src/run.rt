@@ -1,0 +1,124 @@
+// The guests run, and their text is made.
+ghost use Rattle.std.specs.Prelude.{◌≡◌, ◌≤◌, ◌++◌, ℕ, List, length, map, if◌then◌else◌, [], IfOk};
+ghost use Rattle.whole_run.specs.Shelf.{seen_of};
+ghost use Rattle.whole_run.specs.Whole.{Whole as WholeParts, IsWhole};
+ghost use Rattle.journal_text.specs.Journal.{journal_lines};
+ghost use Rattle.host.specs.Answer.{Lists, job_in, journal_text, lists_of, whole_text};
+ghost use Rattle.host.specs.Prepared.{IsReady, plan_in};
+ghost use Rattle.host.specs.Run.{IsRunOf};
+
+use crate::prepare::Prepared;
+use cc_base::{Blob, Name};
+use guest_loop::{GuestEnd, Ran};
+use host_text::texts_of;
+use journal_text::{push_journal, push_shut};
+use manifest::GuestRow;
+use publish::{Loaded, Pub};
+use registry::Entry;
+use report::Report;
+use shelf_model::Shelf;
+use std::alloc::{AllocError, Global};
+use std::marker::Model;
+use unit_set::SlotName;
+use whole_run::{Whole, run_whole};
+
+/// What a run tells.
+#[derive(Drop)]
+pub struct Told {
+    pub loads: Vec<Loaded>,
+    pub guests: Vec<GuestEnd>,
+    pub journal: Vec<Entry>,
+    pub served: Vec<Pub>,
+}
+
+impl Model for Told {
+    ghost use Rattle.host.specs.Answer.{Lists};
+
+    ghost Value = { Lists };
+
+    ghost view = { λ t. record { loads = t.loads.items; guests = t.guests.items; journal = t.journal.items; served = t.served.items } };
+}
+
+/// Runs all guests, and makes their text.
+pub fn run<H: Shelf>(
+    alloc: Global,
+    prepared: Prepared<'_>,
+    shelf: &mut H,
+) -> Result<(Vec<u8>, Told), AllocError>
+    requires { IsReady prepared }
+    ensures { IfOk result (λ both. IsRunOf (plan_in prepared) (seen_of H.told H.faults shelf.old shelf.new) both.1 both.0.items) }
+{
+    let Prepared {
+        order,
+        manifest,
+        elfs,
+        inputs,
+        slots,
+    } = prepared;
+    let again = copies(alloc, &slots)?;
+    let whole = run_whole(alloc, &manifest, elfs, &inputs, slots, shelf)?;
+    let mut text = texts_of(alloc, &whole.rans, order.counts)?;
+    if order.journal {
+        let names = names_of(alloc, manifest.guests())?;
+        push_journal(alloc, &mut text, &names, &again, &whole.journal)?;
+    }
+    push_shut(alloc, &mut text, &again, &whole.loads, &whole.served)?;
+    Ok((text, lists_of(alloc, whole)?))
+}
+
+// The slots a second time.
+fn copies(alloc: Global, slots: &[SlotName]) -> Result<Vec<SlotName>, AllocError>
+    ensures { IfOk result (λ copies. copies.items ≡ slots.now) }
+{
+    let mut copies = Vec::new(alloc);
+    for slot in slots {
+        copies.push(slot.copy(alloc)?)?;
+    }
+    Ok(copies)
+}
+
+// The names of guests, in order.
+fn names_of(alloc: Global, guests: &[GuestRow]) -> Result<Vec<Name>, AllocError>
+    ensures { IfOk result (λ names. names.items ≡ map (λ g. g.name) guests.now) }
+{
+    let mut names = Vec::new(alloc);
+    for guest in guests {
+        names.push(guest.name.copy(alloc)?)?;
+    }
+    Ok(names)
+}
+
+// What is told of a run, of its guests how they ended.
+fn lists_of(alloc: Global, whole: Whole) -> Result<Told, AllocError>
+    ensures { IfOk result (λ t. t ≡ lists_of whole) }
+{
+    let Whole {
+        loads,
+        rans,
+        journal,
+        served,
+    } = whole;
+    Ok(Told {
+        loads,
+        guests: ends_of(alloc, rans)?,
+        journal,
+        served,
+    })
+}
+
+// How guests ended.
+fn ends_of(alloc: Global, rans: Vec<Ran>) -> Result<Vec<GuestEnd>, AllocError>
+    ensures { IfOk result (λ ends. ends.items ≡ map (λ ran. ran.end) rans.items) }
+{
+    let mut ends = Vec::new(alloc);
+    for ran in rans {
+        let Ran {
+            end,
+            output,
+            report,
+        } = ran;
+        let _: (Blob, Report) = (output, report);
+        ends.push(end)?;
+    }
+    Ok(ends)
+}
