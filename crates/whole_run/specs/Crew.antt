@@ -5,7 +5,6 @@ use Rattle.slot_list.specs.Recipe.{recipe_of}
 use Rattle.registry.specs.Opening.{Opening}
 use Rattle.registry.specs.Registry.{opened, told_all}
 use Rattle.registry.specs.History.{History, state_of}
-use Rattle.registry.specs.Laws.{AreLetGo}
 use Rattle.guest_rounds.specs.Rounds.{AreCalls, AreFree, AreTold}
 use Rattle.guest_answers.specs.Plan.{Fits, caller_of}
 use Rattle.guest_loop.specs.declared.guest.Ran.{Ran}
@@ -39,4 +38,5 @@ pub record HaveRun (j : Job) (old new : History) (rans : List Ran) : Type 0 wher
   pub calls : AreCalls (rounds_of j) old.opening new
   pub one_each : length rans ≡ length j.listing.guests
   pub told : AreTold (tells j) (told_all old.opening (opened old.opening) new.journal) rans
-  pub let_go : AreLetGo new.journal
+  -- no guest holds a unit
+  pub free : AreFree (state_of new)

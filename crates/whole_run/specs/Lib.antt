@@ -3,3 +3,4 @@ pub mod Shelf
 pub mod Whole
 pub mod Start
 pub mod Crew
+pub mod Code

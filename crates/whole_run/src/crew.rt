@@ -1,5 +1,5 @@
 // The guests of a run.
-ghost use Rattle.std.specs.Prelude.{◌≡◌, ◌<◌, [], length, IfOk};
+ghost use Rattle.std.specs.Prelude.{◌≡◌, ◌<◌, ◌≤◌, [], length, IfOk, OnOk};
 ghost use Rattle.whole_run.specs.Job.{job_of, plan_of};
 ghost use Rattle.whole_run.specs.Crew.{IsWorkOf};
 
@@ -42,7 +42,8 @@ impl<'a> Crew<'a> {
         inputs: &'a [Blob],
     ) -> Result<Crew<'a>, AllocError>
         requires { length inputs.now ≡ length manifest.now.guests }
-        ensures { IfOk result (λ crew. crew ≡ job_of manifest.now elfs.items inputs.now) }
+        ensures crew { IfOk result (λ crew. crew ≡ job_of manifest.now elfs.items inputs.now) }
+        ensures few { OnOk result (length manifest.now.modules ≤ 32) }
     {
         let plan = plan_of(alloc, manifest, elfs)?;
         Ok(Crew {
@@ -56,7 +57,8 @@ impl<'a> Crew<'a> {
 
 // What the guests share.
 fn plan_of(alloc: Global, manifest: &Manifest, elfs: Vec<Elf>) -> Result<Plan, AllocError>
-    ensures { IfOk result (λ plan. plan ≡ plan_of (job_of manifest.now elfs.items [])) }
+    ensures plan { IfOk result (λ plan. plan ≡ plan_of (job_of manifest.now elfs.items [])) }
+    ensures few { OnOk result (length manifest.now.modules ≤ 32) }
 {
     let layout = SlotLayout::of(alloc, manifest.guests(), &elfs)?;
     let modules = modules_in(alloc, manifest.modules())?;
@@ -86,6 +88,7 @@ fn modules_in(alloc: Global, rows: &[ModuleRow]) -> Result<Vec<ModuleRow>, Alloc
 fn work_of(alloc: Global, manifest: &Manifest, input: &Blob, guest: u32) -> Result<Work, AllocError>
     requires { guest < length manifest.now.guests }
     ensures work { IfOk result (IsWorkOf manifest.now guest input.now) }
+    ensures number { IfOk result (λ work. work.guest ≡ guest) }
     ensures known { IfOk result (λ work. work.«module» < length manifest.now.modules) }
 {
     let row = &manifest.guests()[guest as usize];
@@ -122,6 +125,8 @@ impl<'a> Guests for Crew<'a> {
     fn run(&mut self, guest: u32, registry: &mut Registry) -> Result<Ran, AllocError> {
         let input = &self.inputs[guest as usize];
         let work = work_of(self.alloc, self.manifest, input, guest)?;
-        run_guest(self.alloc, &self.plan, work, registry)
+        let ran = run_guest(self.alloc, &self.plan, work, registry);
+        let _ = registry.journal();
+        ran
     }
 }

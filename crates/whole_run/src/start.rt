@@ -3,7 +3,10 @@ ghost use Rattle.std.specs.Prelude.{◌≡◌, ◌≤◌, ◌<◌, List, ℕ, le
 ghost use Rattle.std.specs.List.{All};
 ghost use Rattle.elf_map.specs.Program.{texts_of};
 ghost use Rattle.shelf_model.specs.Shelf.{TellsSame};
+ghost use Rattle.manifest.specs.Manifest.{module_names};
+ghost use Rattle.unit_set.specs.Slot.{slot_text};
 ghost use Rattle.slot_list.specs.Slots.{slots_of};
+ghost use Rattle.slot_list.specs.Laws.{AreDistinct};
 ghost use Rattle.publisher.specs.Loads.{NoneFalls};
 ghost use Rattle.whole_run.specs.Job.{job_of};
 ghost use Rattle.whole_run.specs.Shelf.{seen_of};
@@ -15,6 +18,7 @@ use publish::{Loaded, Standing};
 use publisher::{Loads, load_all};
 use registry::{FileCodes, Opening, Registry};
 use shelf_model::Shelf;
+use slot_list::laws::{slots_differ, spellings_differ};
 use std::alloc::{AllocError, Global};
 use unit_set::SlotName;
 
@@ -37,12 +41,15 @@ pub fn begin<H: Shelf>(
     requires elfs { length elfs.now ≡ length manifest.now.files }
     requires slots { slots.items ≡ slots_of manifest.now.modules manifest.now.guests elfs.now }
     requires few { length slots.items ≤ 64 }
+    requires names { AreDistinct (module_names manifest.now.modules) }
     ensures told { TellsSame (H.told shelf.old) (H.told shelf.new) }
     ensures counts { NoneFalls (H.faults shelf.old) (H.faults shelf.new) }
     // Whatever its guests may read.
     ensures starts { IfOk result (λ s. (inputs : List (List ℕ)) → IsStart (job_of manifest.now elfs.now inputs) (seen_of H.told H.faults shelf.old shelf.new)
         (H.moment shelf.new) (H.images shelf.new) s.loads.items s.standings.items s.registry) }
 {
+    slots_differ();
+    are_apart(&slots);
     let Loads {
         loaded,
         found,
@@ -63,6 +70,17 @@ pub fn begin<H: Shelf>(
     })
 }
 
+// Slots that differ are spelled in different ways, since each is spelled as a slot is.
+fn are_apart(slots: &[SlotName])
+    requires { AreDistinct slots.now }
+    ensures { AreDistinct (map slot_text slots.now) }
+{
+    spellings_differ();
+    for slot in slots {
+        let _ = &slot.seg;
+    }
+}
+
 // The number of each module's file.
 fn files_of(alloc: Global, manifest: &Manifest) -> Result<Vec<u32>, AllocError>
     ensures files { IfOk result (λ v. v.items ≡ map (λ m. m.file) manifest.now.modules) }
@@ -70,8 +88,9 @@ fn files_of(alloc: Global, manifest: &Manifest) -> Result<Vec<u32>, AllocError>
     ensures few { length manifest.now.files ≤ 32 }
 {
     let _ = manifest.files();
+    let modules = manifest.modules();
     let mut files = Vec::new(alloc);
-    for module in manifest.modules() {
+    for module in modules {
         files.push(module.file)?;
     }
     Ok(files)

@@ -17,8 +17,11 @@ pub struct Whole {
 
 impl Model for Whole {
     ghost use Rattle.whole_run.specs.Whole.{Whole as WholeParts};
+    ghost use Rattle.whole_run.specs.Code.{whole_code};
 
     ghost Value = { WholeParts };
+
+    ghost coded = { whole_code };
 
     ghost view = { λ w. record { loads = w.loads.items; rans = w.rans.items; journal = w.journal.items; served = w.served.items } };
 }
