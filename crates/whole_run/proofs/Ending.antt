@@ -1,5 +1,5 @@
 -- A whole run.
-use Rattle.std.proofs.Common.{◌≡◌, ◌⊎◌, inl, inr, ⊎_elim, ℕ, ◌+◌, ◌<◌, ◌≤◌, true, false, List, [], ◌∷◌, ◌++◌, length, map, refl, sym, ap, ◌∙◌, subst, arith, append_assoc, None}
+use Rattle.std.proofs.Common.{◌≡◌, inl, inr, ⊎_elim, ℕ, ◌<◌, ◌≤◌, true, false, List, [], ◌∷◌, ◌++◌, length, map, sym, ap, ◌∙◌, subst, arith, append_assoc, None}
 use Rattle.std.specs.Prelude.{slice_index_or}
 use Rattle.std.specs.List.{AllByRecursion}
 use Rattle.std.proofs.lemmas.List.{length-map}
@@ -18,7 +18,7 @@ use Rattle.registry.specs.declared.entry.Entry.{Entry}
 use Rattle.registry.specs.declared.entry.Entry.TheVariants.{Finish}
 use Rattle.registry.specs.Opening.{Opening, slot_at}
 use Rattle.registry.specs.State.{due_slot}
-use Rattle.registry.specs.Registry.{AreReplied, IsReplied, after_all, opened, reg, slot_of, told_all}
+use Rattle.registry.specs.Registry.{AreReplied, IsReplied, opened, reg, slot_of, told_all}
 use Rattle.registry.specs.History.{Adds, History, state_of}
 use Rattle.publisher.specs.Loads.{NoneFalls}
 use Rattle.publisher.specs.Serving.{AreCaused, AreTheirs, Grew, IsCaused, Publishes, added, seqs_of, standing_at}
@@ -30,8 +30,8 @@ use Rattle.guest_rounds.proofs.Lists.{all_weak}
 use Rattle.guest_rounds.proofs.Orders.{after-append, finished_by, replied-append}
 use Rattle.guest_loop.specs.declared.guest.Ran.{Ran}
 use Rattle.whole_run.specs.Job.{Job, tells}
-use Rattle.whole_run.specs.Shelf.{IsOpened, Opened, Seen, seq_loaded}
-use Rattle.whole_run.specs.Whole.{Calls, Folder, IsWhole, Opens, Replays, Whole, opened_at}
+use Rattle.whole_run.specs.Shelf.{IsOpened, Opened, Seen}
+use Rattle.whole_run.specs.Whole.{IsWhole, Opens, opened_at}
 use Rattle.whole_run.specs.Start.{IsStart}
 use Rattle.whole_run.specs.Crew.{HaveRun}
 use Rattle.whole_run.proofs.Behind.{free_same, told_same}

@@ -1,12 +1,12 @@
 -- The registry of a run is made from the loads of its slots.
-use Rattle.std.proofs.Common.{◌≡◌, inl, inr, ℕ, zero, suc, ◌+◌, ◌<◌, ◌≤◌, Bool, true, false, List, [], ◌∷◌, ◌++◌, length, get_or, take, add-one, map, option_map, refl, sym, ap, ◌∙◌, subst, arith, Option, Some, None, All}
+use Rattle.std.proofs.Common.{◌≡◌, inl, inr, ℕ, zero, suc, ◌+◌, ◌<◌, Bool, true, List, [], ◌∷◌, ◌++◌, length, get_or, take, add-one, map, option_map, refl, sym, ap, ◌∙◌, subst, arith, Option, Some, None, All}
 use Rattle.std.specs.Prelude.{slice_get, slice_index_or}
 use Rattle.std.proofs.lemmas.List.Elements.{All-push}
 use Rattle.std.proofs.Math.Seq.{take-suc}
-use Rattle.std.proofs.lemmas.Option.{slice_get-get_or, slice_get_within, slice_get-map, unwrap_or-slice_get}
+use Rattle.std.proofs.lemmas.Option.{slice_get-get_or, slice_get-map, unwrap_or-slice_get}
 use Rattle.shelf_model.specs.declared.shelf.Area.{Area}
 use Rattle.shelf_model.specs.Shelf.{Images}
-use Rattle.unit_set.specs.Slot.{IsSlot, Slot, slot_text}
+use Rattle.unit_set.specs.Slot.{Slot, slot_text}
 use Rattle.unit_set.specs.Held.{Held}
 use Rattle.manifest.specs.Entries.{Listing}
 use Rattle.plain_machine.specs.Program.{Program}

@@ -16,7 +16,6 @@ use Rattle.registry.specs.Registry.{Told, opened, told_all}
 use Rattle.registry.specs.History.{History, state_of}
 use Rattle.guest_rounds.specs.Rounds.{AreCalls, AreFree, AreTold}
 use Rattle.guest_proc.specs.Started.{scheme_for}
-use Rattle.guest_script.specs.Script.{Caller}
 use Rattle.guest_answers.specs.Begin.{guest_of}
 use Rattle.guest_answers.specs.Plan.{Fits, Plan, caller_of}
 use Rattle.guest_loop.specs.declared.guest.Ran.{Ran}

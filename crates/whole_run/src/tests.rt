@@ -1,3 +1,7 @@
+ghost use Rattle.std.specs.Prelude.{IfOk};
+ghost use Rattle.manifest.specs.Manifest.{module_names};
+ghost use Rattle.slot_list.specs.Laws.{AreDistinct};
+
 use super::run_whole;
 use super::whole::Whole;
 use cc_base::Blob;
@@ -6,7 +10,6 @@ use guest_loop::Counts;
 use manifest::Manifest;
 use plain_machine::End;
 use publish::{Loaded, Pub};
-use registry::Entry;
 use shelf_model::{Area, MemShelf, Shelf};
 use slot_list::laws::modules_have_own_names;
 use slot_list::slots_of;
@@ -42,11 +45,19 @@ fn file(alloc: Global) -> Result<Elf, Fail> {
     Ok(elf.ok_or("no file")?)
 }
 
+fn manifest(alloc: Global) -> Result<Manifest, Fail>
+    ensures { IfOk result (λ m. AreDistinct (module_names m.modules)) }
+{
+    modules_have_own_names();
+    match Manifest::read(alloc, ONE_GUEST.as_bytes()) {
+        Ok(manifest) => Ok(manifest),
+        Err(_) => Err("refused".into()),
+    }
+}
+
 // A run of the manifest's guests, which read nothing, over its one file.
 fn run<H: Shelf>(alloc: Global, shelf: &mut H) -> Result<Whole, Fail> {
-    modules_have_own_names();
-    let manifest = Manifest::read(alloc, ONE_GUEST.as_bytes()).ok();
-    let manifest = manifest.ok_or("refused")?;
+    let manifest = manifest(alloc)?;
     let elfs = vec![in alloc; file(alloc)?]?;
     let inputs = [Blob::of(alloc, &[])?];
     let slots = slots_of(alloc, manifest.modules(), manifest.guests(), &elfs).ok();
@@ -84,6 +95,7 @@ fn what_a_guest_built_is_published_once(rt: HostRuntime) -> Result<(), Fail> {
         fault: None,
     };
     assert_eq!(rt; first.served.as_slice(), [published].as_slice());
+    assert_eq!(rt; first.journal.len(), 7);
     let second = run(alloc, &mut shelf)?;
     assert_eq!(rt; ended(&second)?, (End::Exit(0), [1, 1, 0, 0]));
     let (area, seq) = (Area::A, 1);
@@ -92,5 +104,6 @@ fn what_a_guest_built_is_published_once(rt: HostRuntime) -> Result<(), Fail> {
         [Loaded::Held { area, seq }].as_slice()
     );
     assert_eq!(rt; second.served.len(), 0);
+    assert_eq!(rt; second.journal.len(), 4);
     Ok(())
 }

@@ -3,7 +3,7 @@ use Rattle.std.proofs.lemmas.List.{length-map}
 use Rattle.publish.specs.declared.area.Standing.{Standing}
 use Rattle.publish.specs.Crash.{Fits}
 use Rattle.registry.specs.declared.entry.Entry.{Entry}
-use Rattle.registry.specs.Opening.{Opening, slot_at}
+use Rattle.registry.specs.Opening.{slot_at}
 use Rattle.registry.specs.Registry.{slot_of}
 use Rattle.registry.specs.History.{History, state_of}
 use Rattle.publisher.specs.Serving.{AreDistinct, Publishes, added, seqs_of, standing_at}

@@ -1,4 +1,4 @@
-use Rattle.std.proofs.Common.{◌≤◌, length, subst, sym, arith, All}
+use Rattle.std.proofs.Common.{◌≤◌, length, subst, arith, All}
 use Rattle.std.proofs.lemmas.List.{take_all}
 use Rattle.unit_set.specs.Slot.{IsSlot}
 use Rattle.whole_run.proofs.Starting.{all_more}

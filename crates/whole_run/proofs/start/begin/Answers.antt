@@ -1,11 +1,9 @@
-use Rattle.std.proofs.Common.{◌≡◌, ◌<◌, List, ℕ, length, map, sym, ap, ◌∙◌, subst, arith}
+use Rattle.std.proofs.Common.{List, length, map, sym, ap, ◌∙◌, subst, arith}
 use Rattle.std.proofs.lemmas.List.{length-map}
 use Rattle.std.specs.Arc.{arc_value}
 use Rattle.unit_set.specs.Slot.{Slot, slot_text}
 use Rattle.elf_map.specs.Program.{texts_of}
 use Rattle.slot_list.specs.Laws.{AreDistinct}
-use Rattle.registry.specs.History.{History, IsOpening}
-use Rattle.registry.specs.Opening.{Opening}
 use Rattle.publisher.specs.Loads.{Loads, contents_of}
 use Rattle.publisher.proofs.Opens.{contents_by, is_opening}
 use Rattle.whole_run.specs.Job.{job_of}

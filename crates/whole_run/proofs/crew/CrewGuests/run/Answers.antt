@@ -1,4 +1,4 @@
-use Rattle.std.proofs.Common.{◌≡◌, ◌++◌, List, [], length, get_or, ap, sym, subst, ◌∙◌, arith}
+use Rattle.std.proofs.Common.{◌≡◌, [], length, get_or, ap, sym, subst, ◌∙◌, arith}
 use Rattle.registrar.specs.Calls.{holder_of}
 use Rattle.registry.proofs.Lists.{read_is}
 use Rattle.guest_rounds.proofs.Lists.{on_err}
