@@ -1,9 +1,11 @@
 // The whole run.
-ghost use Rattle.std.specs.Prelude.{◌≡◌, ◌≤◌, List, ℕ, [], length, map, IfOk};
+ghost use Rattle.std.specs.Prelude.{◌≡◌, ◌≤◌, List, ℕ, [], false, length, map, IfOk};
 ghost use Rattle.std.specs.List.{All};
 ghost use Rattle.elf_map.specs.Program.{texts_of};
 ghost use Rattle.manifest.specs.Manifest.{module_names};
 ghost use Rattle.slot_list.specs.Laws.{AreDistinct};
+ghost use Rattle.registry.specs.declared.entry.Entry.TheVariants.{Finish};
+ghost use Rattle.registry.specs.History.{Adds, state_of};
 ghost use Rattle.whole_run.specs.Job.{job_of, slots_in_job};
 ghost use Rattle.whole_run.specs.Shelf.{seen_of};
 ghost use Rattle.whole_run.specs.Whole.{IsWhole};
@@ -48,7 +50,7 @@ pub fn run_whole<H: Shelf>(
         mut registry,
     } = begin(alloc, manifest, &elfs, slots, shelf)?;
     let rans = run_guests(alloc, manifest, elfs, inputs, &mut registry)?;
-    registry.finish();
+    finish(&mut registry);
     let served = serve(alloc, &mut registry, shelf, &mut standings)?;
     Ok(Whole {
         loads,
@@ -56,6 +58,14 @@ pub fn run_whole<H: Shelf>(
         journal: registry.into_journal(),
         served,
     })
+}
+
+// All guests are done.
+fn finish(registry: &mut Registry)
+    requires { (state_of registry.old).finished ≡ false }
+    ensures { Adds registry.old Finish registry.new }
+{
+    registry.finish();
 }
 
 // Runs all guests.
