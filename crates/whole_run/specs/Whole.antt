@@ -1,8 +1,7 @@
 -- What a whole run tells, and what holds of it.
-use Rattle.std.specs.Prelude.{◌≡◌, ℕ, ◌<◌, true, List, [], ◌∷◌, ◌++◌, length, map, slice_get, slice_index_or, unwrap_or, None}
+use Rattle.std.specs.Prelude.{◌≡◌, ℕ, ◌<◌, true, List, [], ◌∷◌, ◌++◌, length, map, slice_index_or, None}
 use Rattle.std.specs.List.{AllByRecursion}
 use Rattle.elf_map.specs.Program.{texts_of}
-use Rattle.shelf_model.specs.declared.shelf.Area.{Area}
 use Rattle.publish.specs.declared.outcome.Loaded.{Loaded}
 use Rattle.publish.specs.declared.outcome.Loaded.TheVariants.{Unread}
 use Rattle.publish.specs.declared.outcome.Pub.{Pub}

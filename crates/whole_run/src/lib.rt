@@ -5,7 +5,11 @@
 //! journal what each guest came to, and what the folder holds (`IsWhole`).
 #![tactic(auto)]
 
+mod crew;
 mod run;
+mod start;
+#[cfg(test)]
+mod tests;
 mod whole;
 
 pub use run::run_whole;

@@ -1,0 +1,5 @@
+pub mod Visiting
+pub mod Behind
+pub mod Starting
+pub mod Telling
+pub mod Ending
