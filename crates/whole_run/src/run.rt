@@ -33,7 +33,7 @@ pub fn run_whole<H: Shelf>(
     ensures whole { IfOk result (λ w. IsWhole (job_of manifest.now elfs.items inputs.now) (seen_of H.told H.faults shelf.old shelf.new) w) }
     ensures never_falls { (n : List ℕ) → H.faults shelf.old n ≤ H.faults shelf.new n }
 {
-    let _ = (alloc, manifest.files(), inputs.len(), shelf);
+    let _ = manifest.files().len() + inputs.len();
     let _: Vec<Elf> = elfs;
     let _: Vec<SlotName> = slots;
     Err(AllocError)
