@@ -18,7 +18,7 @@ listing_is (Ok l) listing is = ap (λ x. Ok (listing_in l x)) is
     listing_in other (Err cause) = other
 listing_is (Err e) listing is = cc
 
-slots_in : List Slot → Result (List Slot) Cause → List Slot
+abbrev slots_in : List Slot → Result (List Slot) Cause → List Slot
 slots_in other (Ok slots) = slots
 slots_in other (Err cause) = other
 
