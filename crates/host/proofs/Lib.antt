@@ -6,3 +6,4 @@ pub mod Sources
 pub mod Programs
 pub mod Refusing
 pub mod Telling
+pub mod Fitting

@@ -6,7 +6,7 @@ use Rattle.outside.specs.Told.{Told, ForContent}
 use Rattle.host_text.specs.declared.cause.Cause.{Cause}
 use Rattle.host_text.specs.declared.cause.Cause.TheVariants as causes
 use Rattle.host.specs.Outcome.{Answer, Source, Agrees}
-use Rattle.host.specs.Reading.{AreRead, Fails}
+use Rattle.host.specs.Reading.{AreRead, Fails, ReadsFail}
 use Rattle.host.specs.Seen.{source_of}
 
 -- A part of a call: the contents are those of the whole, and its counts are between those of the whole.
@@ -87,6 +87,10 @@ fails_too whole part limit [] cause is fails = absurd fails
 fails_too whole part limit (name ∷ names) cause is (inl agrees) = inl (agrees_too whole part limit name (Err cause) is agrees)
 fails_too whole part limit (name ∷ names) cause is (inr (bytes, agrees, fails)) =
     inr (bytes, agrees_too whole part limit name (Ok bytes) is agrees, fails_too whole part limit names cause is fails)
+
+pub reads_fail_too : (whole part : Source) (files inputs : List (List ℕ)) (cause : Cause) → IsPart whole part → ReadsFail part files inputs cause → ReadsFail whole files inputs cause
+reads_fail_too whole part files inputs cause is (inl fails) = inl (fails_too whole part 4194304 files cause is fails)
+reads_fail_too whole part files inputs cause is (inr (all, read, fails)) = inr (all, read_too whole part 4194304 files all is read, fails_too whole part 1048576 inputs cause is fails)
 
 -- ---- name by name
 

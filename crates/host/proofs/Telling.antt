@@ -1,5 +1,5 @@
 -- What the answers of the top call say.
-use Rattle.std.proofs.Common.{◌≡◌, ◌≢◌, ℕ, Bool, true, if◌then◌else◌, List, [], take, Option, Some, None, Ok, Err, Result, OnOk, OnErr, IsErr, refl, sym, ◌∙◌, ap, subst, ⊎_elim, ◌⊎◌, inl, inr}
+use Rattle.std.proofs.Common.{◌≡◌, ◌≢◌, ℕ, Bool, true, false, if◌then◌else◌, List, [], take, Option, Some, None, Ok, Err, Result, OnOk, OnErr, IsErr, refl, sym, ◌∙◌, ap, subst, ⊎_elim, ◌⊎◌, inl, inr}
 use Rattle.std.specs.Prelude.{String}
 use Rattle.std.specs.declared.alloc.Global.{Global}
 use Rattle.std.proofs.Math.Seq.{take-nil}
@@ -158,16 +158,16 @@ words_only words s cause why is =
 
 -- ---- fair calls
 
+fault_of : (fault : Option ℕ) (exits : Bool) (slot : ℕ) → cause_by fault exits ≡ causes.Shelf slot → fault ≡ Some slot
+fault_of (Some k) exits slot is = cc
+fault_of None true slot is = cc
+fault_of None false slot is = cc
+
 -- with the shelf's fault its count rose
 failed_rose : (words : List (String Global)) (seen : Seen) (slot : ℕ) (lists : Lists) → Prints words seen (causes.Shelf slot) lists →
     (name : List ℕ) × Rose (seen.shelf.faults_before name) (seen.shelf.faults_after name)
 failed_rose words seen slot lists p =
     (slot_text (name_at (slots_in_job (job_in p.runs.plan)) slot), p.runs.caused slot (first_failed lists.loads lists.served slot (fault_of (first_fault lists.loads lists.served) (all_exit lists.guests) slot p.how)))
-  where
-    fault_of : (fault : Option ℕ) (exits : Bool) (slot : ℕ) → cause_by fault exits ≡ causes.Shelf slot → fault ≡ Some slot
-    fault_of (Some k) exits slot is = cc
-    fault_of None true slot is = cc
-    fault_of None false slot is = cc
 
 fair_by : (words : List (String Global)) (seen : Seen) (lists : Lists) (cause : Cause) (status : ℕ) → status ≡ status_of cause → Tells words seen cause lists → is_of_run cause ≡ true → IsFair words seen → RanOrMemory status
 fair_by words seen lists causes.Done status is tells run fair = inl is

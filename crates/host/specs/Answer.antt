@@ -6,7 +6,7 @@ use Rattle.plain_machine.specs.declared.ends.End.{End}
 use Rattle.plain_machine.specs.declared.ends.End.TheVariants as ends
 use Rattle.outside.specs.Faults.{Rose}
 use Rattle.outside.specs.Sink.{with_bytes}
-use Rattle.unit_set.specs.Slot.{slot_text}
+use Rattle.unit_set.specs.Slot.{Slot, slot_text}
 use Rattle.publish.specs.declared.outcome.Loaded.{Loaded}
 use Rattle.publish.specs.declared.outcome.Pub.{Pub}
 use Rattle.registry.specs.declared.entry.Entry.{Entry}
@@ -52,12 +52,15 @@ abbrev pub lists_of : Whole → Lists
 lists_of w = record { loads = w.loads; guests = map (λ ran. ran.end) w.rans; journal = w.journal; served = w.served }
 
 -- the journal, where it is asked for
-abbrev pub journal_text : Plan → Whole → List ℕ
-journal_text plan w = if plan.order.journal then journal_lines (map (λ g. g.name) plan.listing.guests) (slots_in_job (job_in plan)) w.journal else []
+abbrev pub journal_part : Bool → List (List ℕ) → List Slot → List Entry → List ℕ
+journal_part asked guests slots journal = if asked then journal_lines guests slots journal else []
 
 -- the guests in order, the journal, and the slots that are shut
+abbrev pub run_text : Bool → Bool → List (List ℕ) → List Slot → Whole → List ℕ
+run_text counts journal guests slots w = flat_map (text_in counts) w.rans ++ journal_part journal guests slots w.journal ++ shut_lines slots w.loads w.served
+
 abbrev pub whole_text : Plan → Whole → List ℕ
-whole_text plan w = flat_map (text_in plan.order.counts) w.rans ++ journal_text plan w ++ shut_lines (slots_in_job (job_in plan)) w.loads w.served
+whole_text plan w = run_text plan.order.counts plan.order.journal (map (λ g. g.name) plan.listing.guests) (slots_in_job (job_in plan)) w
 
 -- Some answers to the reads, which all agree with what the files tell, give this plan.
 pub record Comes (words : List (String Global)) (s : Source) (plan : Plan) : Type 0 where

@@ -1,13 +1,12 @@
 // The guests run, and their text is made.
-ghost use Rattle.std.specs.Prelude.{◌≡◌, ◌≤◌, ◌++◌, ℕ, List, length, map, if◌then◌else◌, [], IfOk};
+ghost use Rattle.std.specs.Prelude.{◌≡◌, ◌≤◌, length, map, IfOk};
 ghost use Rattle.whole_run.specs.Shelf.{seen_of};
-ghost use Rattle.whole_run.specs.Whole.{Whole as WholeParts, IsWhole};
-ghost use Rattle.journal_text.specs.Journal.{journal_lines};
-ghost use Rattle.host.specs.Answer.{Lists, job_in, journal_text, lists_of, whole_text};
+ghost use Rattle.host.specs.Answer.{lists_of, run_text};
 ghost use Rattle.host.specs.Prepared.{IsReady, plan_in};
 ghost use Rattle.host.specs.Run.{IsRunOf};
 
 use crate::prepare::Prepared;
+use crate::words::Order;
 use cc_base::{Blob, Name};
 use guest_loop::{GuestEnd, Ran};
 use host_text::texts_of;
@@ -46,7 +45,8 @@ pub fn run<H: Shelf>(
     shelf: &mut H,
 ) -> Result<(Vec<u8>, Told), AllocError>
     requires { IsReady prepared }
-    ensures { IfOk result (λ both. IsRunOf (plan_in prepared) (seen_of H.told H.faults shelf.old shelf.new) both.1 both.0.items) }
+    ensures run { IfOk result (λ both. IsRunOf (plan_in prepared.entry) (seen_of H.told H.faults shelf.old shelf.new) both.1 both.0.items) }
+    ensures few { IfOk result (λ both. length both.1.loads ≤ 64) }
 {
     let Prepared {
         order,
@@ -57,13 +57,28 @@ pub fn run<H: Shelf>(
     } = prepared;
     let again = copies(alloc, &slots)?;
     let whole = run_whole(alloc, &manifest, elfs, &inputs, slots, shelf)?;
+    let text = text_of(alloc, order, manifest.guests(), &again, &whole)?;
+    Ok((text, lists_of(alloc, whole)?))
+}
+
+// The text of a run.
+fn text_of(
+    alloc: Global,
+    order: Order<'_>,
+    guests: &[GuestRow],
+    slots: &[SlotName],
+    whole: &Whole,
+) -> Result<Vec<u8>, AllocError>
+    requires { length slots.now ≤ 64 }
+    ensures { IfOk result (λ text. text.items ≡ run_text order.entry.counts order.entry.journal (map (λ g. g.name) guests.now) slots.now whole.now) }
+{
     let mut text = texts_of(alloc, &whole.rans, order.counts)?;
     if order.journal {
-        let names = names_of(alloc, manifest.guests())?;
-        push_journal(alloc, &mut text, &names, &again, &whole.journal)?;
+        let names = names_of(alloc, guests)?;
+        push_journal(alloc, &mut text, &names, slots, &whole.journal)?;
     }
-    push_shut(alloc, &mut text, &again, &whole.loads, &whole.served)?;
-    Ok((text, lists_of(alloc, whole)?))
+    push_shut(alloc, &mut text, slots, &whole.loads, &whole.served)?;
+    Ok(text)
 }
 
 // The slots a second time.

@@ -1,8 +1,8 @@
 // The top call.
-ghost use Rattle.std.specs.Prelude.{◌≡◌, ◌≢◌, ◌↔◌, None, Err, IfOk, IfErr};
+ghost use Rattle.std.specs.Prelude.{◌≡◌, ◌≢◌, ◌≤◌, ◌↔◌, None, Err, length, IfOk, IfErr};
 ghost use Rattle.host_text.specs.Refusals.{status_of};
 ghost use Rattle.whole_run.specs.Shelf.{seen_of as shelf_seen};
-ghost use Rattle.host.specs.Answer.{Decides, IsFair, RanOrMemory, Refuses, Runs, Tells, all_exit, cause_of, no_lists};
+ghost use Rattle.host.specs.Answer.{Decides, IsFair, RanOrMemory, Refuses, Runs, Tells, all_exit, cause_of, is_exit, no_lists};
 ghost use Rattle.host.specs.Outcome.{answers_of, outcome, IsSteady};
 ghost use Rattle.host.specs.Seen.{seen_of, source_of};
 ghost use Rattle.host.specs.Words.{order_of};
@@ -67,6 +67,7 @@ fn work<F: Files, H: Shelf>(
     shelf: &mut H,
 ) -> Result<(Vec<u8>, Told), Cause>
     ensures done { IfOk result (λ both. Runs words.now (source_of F.content F.faults files.old files.new) (shelf_seen H.told H.faults shelf.old shelf.new) both.1 both.0.items) }
+    ensures few { IfOk result (λ both. length both.1.loads ≤ 64) }
     ensures refused { IfErr result (λ cause. cause ≢ Cause.Memory → Refuses words.now (source_of F.content F.faults files.old files.new) cause) }
     ensures still { IfErr result (λ cause. cause ≢ Cause.Memory → shelf.new ≡ shelf.old) }
     ensures words { order_of words.now ≡ None → result ≡ Err Cause.Words }
@@ -77,6 +78,7 @@ fn work<F: Files, H: Shelf>(
 
 // The cause of a run whose text is written whole.
 fn cause_of(told: &Told) -> Cause
+    requires { length told.now.loads ≤ 64 }
     ensures { result ≡ cause_of told.now }
 {
     match first_fault(&told.loads, &told.served) {
@@ -90,12 +92,16 @@ fn cause_of(told: &Told) -> Cause
 fn all_exit(guests: &[GuestEnd]) -> bool
     ensures { result ≡ all_exit guests.now }
 {
-    for guest in guests {
-        if !matches!(guest.end, End::Exit(_)) {
-            return false;
-        }
+    guests.iter().all(|guest| is_exit(guest.end))
+}
+
+fn is_exit(end: End) -> bool
+    ensures { result ≡ is_exit end }
+{
+    match end {
+        End::Exit(_) => true,
+        End::Fault { .. } | End::Fuel | End::Unplaced => false,
     }
-    true
 }
 
 // What is told where nothing was run.
