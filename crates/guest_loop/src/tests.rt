@@ -110,7 +110,6 @@ fn file(alloc: Global, kind: u8, vaddr: u32, words: &[u32]) -> Result<Elf, Fail>
 // Some guests, and what they are lent.
 #[derive(Drop)]
 struct Host {
-    alloc: Global,
     manifest: Manifest,
     plan: Plan,
     registry: Registry,
@@ -144,7 +143,6 @@ fn open(alloc: Global, text: &str, elfs: Vec<Elf>) -> Result<Host, Fail>
     };
     let registry = Registry::new(alloc, opening)?;
     Ok(Host {
-        alloc,
         plan: plan_of(alloc, &manifest, elfs)?,
         manifest,
         registry,
@@ -156,19 +154,26 @@ fn plan_of(alloc: Global, manifest: &Manifest, elfs: Vec<Elf>) -> Result<Plan, F
     ensures { IfOk result (λ plan. plan ≡ record { elfs = elfs.items; modules = manifest.now.modules; layout = layout_of manifest.now.guests elfs.items }) }
 {
     let layout = SlotLayout::of(alloc, manifest.guests(), &elfs)?;
+    let modules = modules_in(alloc, manifest.modules())?;
+    Ok(Plan {
+        elfs,
+        modules,
+        layout,
+    })
+}
+
+fn modules_in(alloc: Global, rows: &[ModuleRow]) -> Result<Vec<ModuleRow>, Fail>
+    ensures { IfOk result (λ v. v.items ≡ rows.now) }
+{
     let mut modules = Vec::new(alloc);
-    for row in manifest.modules() {
+    for row in rows {
         modules.push(ModuleRow {
             name: row.name.copy(alloc)?,
             file: row.file,
             base: row.base,
         })?;
     }
-    Ok(Plan {
-        elfs,
-        modules,
-        layout,
-    })
+    Ok(modules)
 }
 
 // No unit was found for any of these slots, and none is shut.
@@ -181,7 +186,8 @@ fn nothing_found(
 {
     let mut found = Vec::new(alloc);
     let mut shut = Vec::new(alloc);
-    for _ in slots {
+    for slot in slots {
+        let _ = &slot.seg;
         found.push(None)?;
         shut.push(false)?;
     }
@@ -225,23 +231,29 @@ fn codes_in(alloc: Global, elf: &Elf) -> Result<FileCodes, Fail>
 }
 
 // Runs the guest of this number.
-fn run(host: &mut Host, guest: u32) -> Result<Ran, Fail>
-    requires fits { (n g : ℕ) (row : GuestEntry) → slice_get host.old.manifest.guests g ≡ Some row → Fits host.old.plan (caller_of host.old.plan n (recipe_of row)) host.old.registry.opening }
-    requires even { AreEven (holder_of host.old.registry).own }
-    ensures fits { OnOk result ((n g : ℕ) (row : GuestEntry) → slice_get host.new.manifest.guests g ≡ Some row → Fits host.new.plan (caller_of host.new.plan n (recipe_of row)) host.new.registry.opening) }
-    ensures even { OnOk result (AreEven (holder_of host.new.registry).own) }
+fn run(
+    alloc: Global,
+    plan: &Plan,
+    manifest: &Manifest,
+    guest: u32,
+    registry: &mut Registry,
+) -> Result<Ran, Fail>
+    requires fits { (n g : ℕ) (row : GuestEntry) → slice_get manifest.now.guests g ≡ Some row → Fits plan.now (caller_of plan.now n (recipe_of row)) registry.old.opening }
+    requires even { AreEven (holder_of registry.old).own }
+    ensures fits { OnOk result ((n g : ℕ) (row : GuestEntry) → slice_get manifest.now.guests g ≡ Some row → Fits plan.now (caller_of plan.now n (recipe_of row)) registry.new.opening) }
+    ensures even { OnOk result (AreEven (holder_of registry.new).own) }
 {
-    let guests = host.manifest.guests();
+    let guests = manifest.guests();
     if guest as usize >= guests.len() {
         return Err(Fail::from("no guest"));
     }
     let row = &guests[guest as usize];
-    if row.module as usize >= host.plan.modules.len() {
+    if row.module as usize >= plan.modules.len() {
         return Err(Fail::from("no module"));
     }
     let work = Work {
         guest,
-        name: row.name.copy(host.alloc)?,
+        name: row.name.copy(alloc)?,
         module: row.module,
         setup: Setup {
             isa: row.isa,
@@ -250,10 +262,10 @@ fn run(host: &mut Host, guest: u32) -> Result<Ran, Fail>
             fuel: row.fuel,
             pool: row.pool,
             stack: row.stack,
-            input: Blob::of(host.alloc, b"")?,
+            input: Blob::of(alloc, b"")?,
         },
     };
-    Ok(run_guest(host.alloc, &host.plan, work, &mut host.registry)?)
+    Ok(run_guest(alloc, plan, work, registry)?)
 }
 
 fn counts(counts: Counts) -> [u64; 4] {
@@ -264,14 +276,18 @@ fn counts(counts: Counts) -> [u64; 4] {
 fn a_countdown_runs_over_three_blocks(rt: HostRuntime) -> Result<(), Fail> {
     let alloc = rt.alloc();
     let elfs = vec![in alloc; file(alloc, 2, 0x1_0000, &COUNTDOWN)?]?;
-    let mut host = open(alloc, TWO_GUESTS, elfs)?;
-    let end = run(&mut host, 0)?.end;
+    let Host {
+        manifest,
+        plan,
+        mut registry,
+    } = open(alloc, TWO_GUESTS, elfs)?;
+    let end = run(alloc, &plan, &manifest, 0, &mut registry)?.end;
     assert_eq!(rt; end.end, End::Exit(0));
     assert_eq!(rt; end.maps.as_slice(), [0].as_slice());
     assert_eq!(rt; counts(end.counts), [1001, 0, 3, 997]);
     assert_eq!(rt; end.legs.as_slice(), [0, 0, 1001, 0, 0].as_slice());
     // The next guest takes all blocks from the unit.
-    let again = run(&mut host, 1)?.end;
+    let again = run(alloc, &plan, &manifest, 1, &mut registry)?.end;
     assert_eq!(rt; again.end, End::Exit(0));
     assert_eq!(rt; counts(again.counts), [1001, 1001, 0, 1000]);
     assert_eq!(rt; again.legs.as_slice(), [0, 0, 1001, 0].as_slice());
@@ -289,8 +305,12 @@ fn room_is_made_where_the_pool_is_full(rt: HostRuntime) -> Result<(), Fail> {
     }
     words.extend_from_slice(&[0xfff2_8293, 0xf602_90e3, 0x05d0_0893, 0x0000_0073])?;
     let elfs = vec![in alloc; file(alloc, 2, 0x1_0000, &words)?]?;
-    let mut host = open(alloc, TWO_GUESTS, elfs)?;
-    let end = run(&mut host, 0)?.end;
+    let Host {
+        manifest,
+        plan,
+        mut registry,
+    } = open(alloc, TWO_GUESTS, elfs)?;
+    let end = run(alloc, &plan, &manifest, 0, &mut registry)?.end;
     assert_eq!(rt; end.end, End::Exit(0));
     assert_eq!(rt; counts(end.counts), [81, 0, 81, 0]);
     Ok(())
@@ -302,8 +322,12 @@ fn calls_on_a_second_module_are_answered(rt: HostRuntime) -> Result<(), Fail> {
     let alloc = rt.alloc();
     let main = file(alloc, 2, 0x1_0000, &CALLS)?;
     let lib = file(alloc, 3, 0, &COUNTDOWN)?;
-    let mut host = open(alloc, TWO_MODULES, vec![in alloc; main, lib]?)?;
-    let end = run(&mut host, 0)?.end;
+    let Host {
+        manifest,
+        plan,
+        mut registry,
+    } = open(alloc, TWO_MODULES, vec![in alloc; main, lib]?)?;
+    let end = run(alloc, &plan, &manifest, 0, &mut registry)?.end;
     assert_eq!(rt; end.end, End::Exit(0));
     assert_eq!(rt; end.maps.as_slice(), [0, 1].as_slice());
     assert_eq!(rt; counts(end.counts), [4, 0, 4, 0]);
