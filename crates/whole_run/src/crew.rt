@@ -1,5 +1,5 @@
 // The guests of a run.
-ghost use Rattle.std.specs.Prelude.{◌≡◌, ◌<◌, ◌≤◌, [], length, IfOk, OnOk};
+ghost use Rattle.std.specs.Prelude.{◌≡◌, ◌<◌, ◌≤◌, [], length, slice_get, unwrap_or, IfOk, OnOk};
 ghost use Rattle.whole_run.specs.Job.{job_of, plan_of};
 ghost use Rattle.whole_run.specs.Crew.{IsWorkOf};
 
@@ -84,6 +84,14 @@ fn modules_in(alloc: Global, rows: &[ModuleRow]) -> Result<Vec<ModuleRow>, Alloc
     Ok(modules)
 }
 
+// What the guest of this number may read.
+fn input_of(inputs: &[Blob], guest: u32) -> &Blob
+    requires { guest < length inputs.now }
+    ensures { result.now ≡ unwrap_or (slice_get inputs.now guest) [] }
+{
+    &inputs[guest as usize]
+}
+
 // The guest of this number, which may read this.
 fn work_of(alloc: Global, manifest: &Manifest, input: &Blob, guest: u32) -> Result<Work, AllocError>
     requires { guest < length manifest.now.guests }
@@ -123,7 +131,7 @@ impl<'a> Guests for Crew<'a> {
     ghost tells = { tells };
 
     fn run(&mut self, guest: u32, registry: &mut Registry) -> Result<Ran, AllocError> {
-        let input = &self.inputs[guest as usize];
+        let input = input_of(self.inputs, guest);
         let work = work_of(self.alloc, self.manifest, input, guest)?;
         let ran = run_guest(self.alloc, &self.plan, work, registry);
         let _ = registry.journal();

@@ -1,6 +1,5 @@
-use Rattle.std.proofs.Common.{◌≡◌, [], length, get_or, ap, sym, subst, ◌∙◌, arith}
+use Rattle.std.proofs.Common.{◌≡◌, ap, subst, ◌∙◌}
 use Rattle.registrar.specs.Calls.{holder_of}
-use Rattle.registry.proofs.Lists.{read_is}
 use Rattle.guest_rounds.proofs.Lists.{on_err}
 use Rattle.guest_answers.specs.Entries.{Grows}
 use Rattle.whole_run.specs.Job.{Job, input_of, plan_of, tells}
@@ -17,14 +16,12 @@ returns-clause-ok c =
     let work = c.in_ok-work.work in
     let old = c.args.registry.now in
     let new = c.run_guest-ran.new.registrar in
-    let input = get_or c.self.inside.inputs.now c.args.guest c.index-self-guest.result in
-    let reads : input_of j c.args.guest ≡ input =
-    ap (λ (x : Job). input_of x c.args.guest) (sym c.self.view_is)
-    ∙ (read_is c.self.inside.inputs.now c.args.guest c.index-self-guest.result [] (omega (arith, c.self.invariant.1, ap (λ (x : Job). length x.listing.guests) c.self.view_is, c.requires.may.there)) c.index-self-guest.is ∙ c.index-self-guest.is) in
+    let input = c.input_of-input.result.now in
+    let reads : input ≡ input_of j c.args.guest = c.input_of-input.ensures ∙ ap (λ (x : Job). input_of x c.args.guest) c.self.view_is in
     let grows : Grows c.args.guest (holder_of old) (holder_of new) = subst (λ g. Grows g (holder_of old) (holder_of new)) c.in_ok-work.ensures.number c.run_guest-ran.ensures.grows in
     ok_by c.run_guest-ran.result _ _ _ _ c.run_guest-ran.ensures.told c.run_guest-ran.ensures.name c.run_guest-ran.ensures.even
     (λ ran told name even. visits c.args.guest old new told.0 (λ own. tells j c.args.guest own ran) grows c.journal.ensures.replied c.requires.let_go even told.1
-    (tells_by j c.self.inside.plan c.self.inside.manifest.now c.args.guest input work told.0 ran (c.self.invariant.0 ∙ ap plan_of c.self.view_is) (ap (λ (x : Job). x.listing) c.self.view_is) (sym reads)
+    (tells_by j c.self.inside.plan c.self.inside.manifest.now c.args.guest input work told.0 ran (c.self.invariant.0 ∙ ap plan_of c.self.view_is) (ap (λ (x : Job). x.listing) c.self.view_is) reads
     c.in_ok-work.ensures.work name told.2))
 
 pub returns-clause-err : goal.returns-clause-err
