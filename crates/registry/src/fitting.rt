@@ -1,5 +1,5 @@
 // Whether a segment of a file may stand at a slot.
-ghost use Rattle.std.specs.Prelude.{◌≡◌, ◌+◌, ◌≤◌, true, length};
+ghost use Rattle.std.specs.Prelude.{◌+◌, ◌≤◌, ◌↔◌, IsTrue, length};
 ghost use Rattle.cc_base.specs.Image.{start_of};
 ghost use Rattle.registry.specs.History.{MayAttach};
 
@@ -8,7 +8,7 @@ use cc_base::FileCode;
 
 /// Whether the file has the slot's segment, and it ends at an address at the slot's base.
 pub fn may_attach(opening: &Opening, slot: u32, file: u32) -> bool
-    ensures { result ≡ true → MayAttach opening.now slot file }
+    ensures { IsTrue result ↔ MayAttach opening.now slot file }
 {
     if slot as usize >= opening.slots.len() || file as usize >= opening.codes.len() {
         return false;
@@ -23,7 +23,7 @@ pub fn may_attach(opening: &Opening, slot: u32, file: u32) -> bool
 
 // Whether the segment ends at an address, with its module at this base.
 fn ends(code: &FileCode, base: u32) -> bool
-    ensures { result ≡ true → start_of code.now base + length code.now.bytes ≤ 4294967295 }
+    ensures { IsTrue result ↔ (start_of code.now base + length code.now.bytes ≤ 4294967295) }
 {
     let start = if code.fixed { 0 } else { u64::from(base) };
     start + u64::from(code.vaddr) + code.bytes.items().len() as u64 <= u64::from(u32::MAX)
