@@ -89,49 +89,59 @@ fn push_entry_numbers(out: &mut Vec<u8>, entry: &Entry) -> Result<(), AllocError
     ensures { OnOk result (out.new.items ≡ out.old.items ++ entry_numbers entry.now) }
 {
     match entry {
-        Entry::Map { module, file, .. } => {
-            push_number(out, u64::from(*module))?;
-            push_file(out, *file)
-        }
+        Entry::Map { module, file, .. } => push_map(out, *module, *file),
         Entry::Replace {
             module,
             file,
             reply,
             ..
-        } => {
-            push_numbers(out, &[u64::from(*module), u64::from(*file)])?;
-            out.extend_from_slice(replaced_text(*reply))
-        }
+        } => push_replace(out, *module, *file, *reply),
         Entry::Attach {
             file,
             age,
             version,
             ..
-        } => push_numbers(
-            out,
-            &[u64::from(*file), u64::from(*age), u64::from(*version)],
-        ),
+        } => push_numbers(out, &[*file, *age, *version]),
         Entry::Merge {
             age,
             addrs,
             reply,
             ..
-        } => {
-            push_numbers(out, &[u64::from(*age), addrs.items().len() as u64])?;
-            push_merged(out, *reply)
-        }
-        Entry::Detach { age, .. } => push_number(out, u64::from(*age)),
-        Entry::Due { age, version, .. } => push_numbers(
-            out,
-            &[u64::from(*age), u64::from(*version)],
-        ),
-        Entry::Acked { age, version, .. } => push_numbers(
-            out,
-            &[u64::from(*age), u64::from(*version)],
-        ),
+        } => push_merge(out, *age, addrs.items().len(), *reply),
+        Entry::Detach { age, .. } => push_numbers(out, &[*age]),
+        Entry::Due { age, version, .. } => push_numbers(out, &[*age, *version]),
+        Entry::Acked { age, version, .. } => push_numbers(out, &[*age, *version]),
         Entry::Failed { .. } => Ok(()),
         Entry::Finish => Ok(()),
     }
+}
+
+fn push_map(out: &mut Vec<u8>, module: u32, file: Option<u32>) -> Result<(), AllocError>
+    ensures { OnOk result (out.new.items ≡ out.old.items ++ number «module» ++ file_text file) }
+{
+    push_numbers(out, &[module])?;
+    push_file(out, file)
+}
+
+fn push_replace(
+    out: &mut Vec<u8>,
+    module: u32,
+    file: u32,
+    reply: Replaced,
+) -> Result<(), AllocError>
+    ensures { OnOk result (out.new.items ≡ out.old.items ++ numbers («module» ∷ file ∷ []) ++ replaced_text reply) }
+{
+    push_numbers(out, &[module, file])?;
+    out.extend_from_slice(replaced_text(reply))
+}
+
+// Of the addresses of a merge their number is told.
+fn push_merge(out: &mut Vec<u8>, age: u32, count: usize, reply: Merged) -> Result<(), AllocError>
+    ensures { OnOk result (out.new.items ≡ out.old.items ++ numbers (age ∷ count ∷ []) ++ merged_text reply) }
+{
+    push_numbers(out, &[age])?;
+    push_number(out, count as u64)?;
+    push_merged(out, reply)
 }
 
 fn push_file(out: &mut Vec<u8>, file: Option<u32>) -> Result<(), AllocError>

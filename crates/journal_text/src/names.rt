@@ -18,11 +18,11 @@ pub fn push_number(out: &mut Vec<u8>, n: u64) -> Result<(), AllocError>
 }
 
 /// Appends numbers, each with a space before it.
-pub fn push_numbers(out: &mut Vec<u8>, ns: &[u64]) -> Result<(), AllocError>
+pub fn push_numbers(out: &mut Vec<u8>, ns: &[u32]) -> Result<(), AllocError>
     ensures { OnOk result (out.new.items ≡ out.old.items ++ numbers ns.now) }
 {
     for n in ns {
-        push_number(out, *n)?;
+        push_number(out, u64::from(*n))?;
     }
     Ok(())
 }
