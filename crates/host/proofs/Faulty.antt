@@ -3,7 +3,7 @@ use Rattle.std.proofs.Common.{◌≡◌, ℕ, zero, suc, ◌+◌, ◌<◌, ◌==
 use Rattle.std.specs.Prelude.{◌&&◌, ◌||◌, slice_get, slice_index_or, unwrap_or, option_map}
 use Rattle.std.specs.List.{AllByRecursion, list_any, find, range_with_len}
 use Rattle.std.proofs.lemmas.Bool.{cases_Bool, eqb-true}
-use Rattle.shelf_model.specs.Faults.{Rose}
+use Rattle.fault_counts.specs.Counts.{Rose}
 use Rattle.unit_set.specs.Slot.{Slot, slot_text}
 use Rattle.publish.specs.declared.area.Standing.{Standing}
 use Rattle.publish.specs.declared.area.Verdict.{Verdict}

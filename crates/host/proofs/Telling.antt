@@ -4,7 +4,7 @@ use Rattle.std.specs.Prelude.{String}
 use Rattle.std.specs.declared.alloc.Global.{Global}
 use Rattle.std.proofs.Math.Seq.{take-nil}
 use Rattle.std.proofs.lemmas.Bool.{cases_Bool}
-use Rattle.outside.specs.Faults.{Rose}
+use Rattle.fault_counts.specs.Counts.{Rose}
 use Rattle.outside.specs.Sink.{with_bytes}
 use Rattle.journal_text.specs.Shut.{first_fault, shelf_failed}
 use Rattle.unit_set.specs.Slot.{slot_text}

@@ -2,7 +2,7 @@
 use Rattle.std.specs.Prelude.{◌≡◌, ◌≢◌, ℕ, suc, ◌<◌, ◌≤◌, nat_le, List, [], ◌∷◌, length, if◌then◌else◌, Option, Some, None, Result, Ok, Err, String}
 use Rattle.std.specs.List.{filter_map}
 use Rattle.std.specs.declared.alloc.Global.{Global}
-use Rattle.outside.specs.Faults.{Rose}
+use Rattle.fault_counts.specs.Counts.{Rose}
 use Rattle.outside.specs.Told.{Told, Untold, Absent, Holds, ForContent}
 use Rattle.plain_machine.specs.Program.{Program}
 use Rattle.manifest.specs.declared.error.ManifestErr.{ManifestErr}

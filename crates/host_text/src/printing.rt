@@ -1,7 +1,7 @@
 // Writes texts to a sink.
 ghost use Rattle.std.specs.Prelude.{◌≡◌, ◌≤◌, ◌++◌, ℕ, take, OnOk, OnErr, IsErr};
 ghost use Rattle.std.specs.List.{flat_map};
-ghost use Rattle.outside.specs.Faults.{Rose};
+ghost use Rattle.fault_counts.specs.Counts.{Rose};
 ghost use Rattle.outside.specs.Sink.{with_bytes};
 
 use outside::{Sink, SinkFailed};

@@ -1,6 +1,6 @@
 // The lines that tell why nothing was run.
 ghost use Rattle.std.specs.Prelude.{◌≡◌, ◌++◌, ℕ, take, codes, OnOk, OnErr, IsErr};
-ghost use Rattle.outside.specs.Faults.{Rose};
+ghost use Rattle.fault_counts.specs.Counts.{Rose};
 ghost use Rattle.outside.specs.Sink.{with_bytes};
 ghost use Rattle.host_text.specs.Refusals.{elf_word, elf_number, manifest_word, manifest_key, manifest_line, elf_line, slots_line, refusal_text};
 

@@ -1,5 +1,4 @@
 pub mod Told
-pub mod Faults
 pub mod Sink
 pub mod MemFiles
 pub mod MemSink

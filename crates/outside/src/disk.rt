@@ -1,14 +1,14 @@
 // The system's files and its standard output. What they hold no clause says.
 ghost use Rattle.std.specs.Prelude.{◌≡◌, ◌<◌, ◌≤◌, ℕ, List, Err, take, length, vec_len, IfOk, OnOk, OnErr, IsErr};
-ghost use Rattle.outside.specs.Faults.{Rose, one_more};
+ghost use Rattle.fault_counts.specs.Counts.{Rose, one_more};
 ghost use Rattle.outside.specs.Sink.{with_bytes};
 
 use crate::files::{FileErr, Files};
-use crate::raised;
 use crate::sink::{Sink, SinkFailed};
+use fault_counts::raised;
 use std::alloc::Global;
 use std::fs::File;
-use std::io::{self, Read, Write};
+use std::io::{self, ErrorKind, Read, Write};
 use std::rt;
 
 /// The files of the working folder.
@@ -49,16 +49,17 @@ fn read_file<R: rt::Files>(
     let mut bytes = Vec::new(alloc);
     let mut buffer = [0u8; 4096];
     for _ in 0..u64::MAX {
-        let Ok(count) = file.read(&mut buffer) else {
-            return Err(FileErr::Failed);
-        };
-        if count == 0 {
-            return Ok(bytes);
+        match file.read(&mut buffer) {
+            Ok(0) => return Ok(bytes),
+            Ok(count) => {
+                if count > limit as usize - bytes.len() {
+                    return Err(FileErr::TooLong);
+                }
+                bytes.extend_from_slice(&buffer[..count])?;
+            }
+            Err(e) if e.kind() == ErrorKind::Interrupted => {}
+            Err(_) => return Err(FileErr::Failed),
         }
-        if count > limit as usize - bytes.len() {
-            return Err(FileErr::TooLong);
-        }
-        bytes.extend_from_slice(&buffer[..count])?;
     }
     Err(FileErr::Failed)
 }

@@ -1,10 +1,11 @@
 // Files by name.
 ghost use Rattle.std.specs.Prelude.{◌≡◌, ◌≢◌, ◌<◌, ◌≤◌, ◌↔◌, ◌⊎◌, ◌==◌, ℕ, List, Option, Some, None, Contains, length, vec_len, is_err, IfOk, OnOk, OnErr, IfSome, IsErrOf};
-ghost use Rattle.outside.specs.Faults.{Rose, one_more};
+ghost use Rattle.fault_counts.specs.Counts.{Rose, one_more};
 ghost use Rattle.outside.specs.Told.{Told, Absent, Holds, ForContent};
 ghost use Rattle.outside.specs.declared.files.FileErr.TheVariants.{TooLong, Failed, Memory};
 
-use crate::{is_listed, raised};
+use crate::is_listed;
+use fault_counts::raised;
 use std::alloc::{AllocError, AllocFailed, Global};
 use std::collections::BTreeMap;
 

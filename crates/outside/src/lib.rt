@@ -1,6 +1,7 @@
 //! What a host reads from and writes to: files by name, and a sink. Each trait has meanings, which its contracts speak
 //! of, and a count of faults; there are objects in memory, some of which fail calls by their number, and adapters over
-//! the working folder and standard output. It stands on std alone. What stands above uses the clauses of [`Files`] and
+//! the working folder and standard output. It stands on
+//! `fault_counts`. What stands above uses the clauses of [`Files`] and
 //! [`Sink`], and in tests those of the objects in memory.
 #![tactic(auto)]
 
@@ -10,21 +11,11 @@ pub mod sink;
 #[cfg(test)]
 mod tests;
 
-ghost use Rattle.std.specs.Prelude.{◌≡◌, ◌≤◌, ◌↔◌, Contains, IsTrue};
-ghost use Rattle.outside.specs.Faults.{Rose, one_more};
+ghost use Rattle.std.specs.Prelude.{◌↔◌, Contains, IsTrue};
 
 pub use disk::{DiskFiles, StdSink};
 pub use files::{FileErr, Files, FuseFiles, MemFiles};
 pub use sink::{FuseSink, MemSink, Sink, SinkFailed};
-
-// The count after one more.
-fn raised(count: u64) -> u64
-    ensures value { result ≡ one_more count }
-    ensures rose { Rose count result }
-    ensures no_less { count ≤ result }
-{
-    count.saturating_add(1)
-}
 
 // The call of this number is among those listed.
 fn is_listed(calls: &[u32], call: u64) -> bool

@@ -1,9 +1,10 @@
 // Where a text is written, piece by piece.
 ghost use Rattle.std.specs.Prelude.{◌≡◌, ◌<◌, ◌≤◌, ◌-◌, ◌↔◌, ◌⊎◌, ℕ, List, [], Option, Some, take, length, min, Contains, IfOk, OnOk, OnErr, IsErr, vec_len, vec_capacity};
-ghost use Rattle.outside.specs.Faults.{Rose, one_more};
+ghost use Rattle.fault_counts.specs.Counts.{Rose, one_more};
 ghost use Rattle.outside.specs.Sink.{with_bytes};
 
-use crate::{is_listed, raised};
+use crate::is_listed;
+use fault_counts::raised;
 use std::alloc::{AllocError, Global};
 
 /// A write that took nothing.

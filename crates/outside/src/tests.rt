@@ -63,6 +63,7 @@ fn the_systems_files_are_read(rt: HostRuntime) -> Result<(), Fail> {
         Some(FileErr::TooLong)
     );
     assert_eq!(rt; files.read("no such file", 10).err(), Some(FileErr::Failed));
+    assert_eq!(rt; files.read(".", 10_000).err(), Some(FileErr::Failed));
     Ok(())
 }
 

@@ -2,7 +2,7 @@
 use Rattle.std.specs.Prelude.{◌≡◌, ℕ, ◌≤◌, List, Option, Some, None, Result, Err}
 use Rattle.shelf_model.specs.declared.shelf.Area.{Area}
 use Rattle.shelf_model.specs.declared.shelf.Area.TheVariants.{A, B}
-use Rattle.shelf_model.specs.Faults.{Rose}
+use Rattle.fault_counts.specs.Counts.{Rose}
 use Rattle.shelf_model.specs.Shelf.{Told}
 use Rattle.unit_set.specs.Slot.{Slot, slot_text}
 use Rattle.publish.specs.declared.area.Verdict.{Verdict}

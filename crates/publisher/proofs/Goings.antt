@@ -5,7 +5,7 @@ use Rattle.std.proofs.lemmas.List.{length-set, set-get_or, get_or-set_other}
 use Rattle.std.proofs.lemmas.Bool.{cases_lt}
 use mathlib.Core.Logic.{dite}
 use native.Mathlib.Decide.{ℕ_discrete}
-use Rattle.shelf_model.specs.Faults.{Rose}
+use Rattle.fault_counts.specs.Counts.{Rose}
 use Rattle.shelf_model.specs.declared.shelf.Area.{Area}
 use Rattle.shelf_model.specs.declared.shelf.Area.TheVariants.{A, B}
 use Rattle.shelf_model.specs.Shelf.{Told, Images, TellsOthers}

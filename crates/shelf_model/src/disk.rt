@@ -1,11 +1,11 @@
 // A folder of the system. What it holds no clause says.
 ghost use Rattle.std.specs.Prelude.{◌≡◌, ◌+◌, ◌<◌, ◌≤◌, ◌↔◌, ℕ, List, Some, None, Err, IsTrue, IfOk, OnOk, OnErr, length, vec_len};
-ghost use Rattle.shelf_model.specs.Faults.{Rose, one_more};
+ghost use Rattle.fault_counts.specs.Counts.{Rose, one_more};
 ghost use Rattle.shelf_model.specs.Names.{IsNameByte, IsFileName, ending, path_of};
 ghost use Rattle.shelf_model.specs.Shelf.{written, Torn, Elapses, Rests, Stands, TellsOthers, TellsSame, Leaves, WhereTold};
 
-use crate::raised;
 use crate::shelf::{Area, Shelf, ShelfErr};
+use fault_counts::raised;
 use std::alloc::Global;
 use std::fs::{self, File, OpenFile, OpenOptions};
 use std::io::{self, ErrorKind, Read, Seek, SeekFrom, Write};
@@ -15,7 +15,8 @@ const FOLDER: &str = "unit-cache";
 
 /// The area files of the folder `unit-cache` in the working folder: a name's two are `NAME.a` and `NAME.b`. A name is
 /// of lower-case letters, digits, the letters A to F, `_`, `-` and `.`, and not empty, `.` or `..`; every call on
-/// another one fails.
+/// another one fails. So does every call where such a path is there and is no regular file: a link is not followed. The
+/// folder itself may be a link.
 #[derive(Drop)]
 pub struct DiskShelf<R: rt::Files + Drop> {
     rt: R,
@@ -87,13 +88,22 @@ fn area_path(alloc: Global, name: &[u8], area: Area) -> Result<String, ShelfErr>
     Ok(path)
 }
 
-// Opens a file to be read; none where it is absent.
-fn open_to_read<R: rt::Files>(rt: &R, path: &str) -> io::Result<Option<R::File>> {
-    match File::open(rt, path) {
-        Ok(file) => Ok(Some(file)),
-        Err(e) if e.kind() == ErrorKind::NotFound => Ok(None),
+// Whether a file is there. What is no regular file, as a link, a FIFO, a device or a folder, is an error, and is not opened.
+fn is_there<R: rt::Files>(rt: &R, path: &str) -> io::Result<bool> {
+    match fs::symlink_metadata(rt, path) {
+        Ok(found) if found.is_file() => Ok(true),
+        Ok(_) => Err(io::Error::from(ErrorKind::InvalidInput)),
+        Err(e) if e.kind() == ErrorKind::NotFound => Ok(false),
         Err(e) => Err(e),
     }
+}
+
+// Opens a file to be read; none where it is absent.
+fn open_to_read<R: rt::Files>(rt: &R, path: &str) -> io::Result<Option<R::File>> {
+    if !is_there(rt, path)? {
+        return Ok(None);
+    }
+    Ok(Some(File::open(rt, path)?))
 }
 
 // The bytes of a file, at most so many; none where it is absent.
@@ -146,6 +156,7 @@ fn open_to_write<R: rt::Files>(rt: &R, path: &str) -> io::Result<R::File> {
 
 // Writes bytes into a file, which keeps all others, with zeros in a gap before them.
 fn write_file<R: rt::Files>(rt: &R, path: &str, at: u32, bytes: &[u8]) -> io::Result<()> {
+    let _ = is_there(rt, path)?;
     let mut file = open_to_write(rt, path)?;
     if bytes.is_empty() && file.metadata()?.len() < u64::from(at) {
         return file.set_len(u64::from(at));

@@ -1,12 +1,12 @@
 // A shelf in memory of which some calls fail.
 ghost use Rattle.std.specs.Prelude.{◌≡◌, ◌≢◌, ◌+◌, ◌<◌, ◌≤◌, ◌↔◌, ◌⊎◌, ◌++◌, ◌∷◌, [], ℕ, List, Some, None, Err, IfOk, OnOk, OnErr, IsTrue, MatchBool, Contains, length, take, vec_len};
-ghost use Rattle.shelf_model.specs.Faults.{Rose, one_more};
+ghost use Rattle.fault_counts.specs.Counts.{Rose, one_more};
 ghost use Rattle.shelf_model.specs.FuseShelf.{IsDue};
 ghost use Rattle.shelf_model.specs.Shelf.{written, Torn, Elapses, Rests, Stands, TellsOthers, TellsSame, Leaves, WhereTold};
 
 use crate::memory::{Action, MemShelf};
-use crate::raised;
 use crate::shelf::{Area, Shelf, ShelfErr};
+use fault_counts::raised;
 
 // Which calls fail. The first has the number 1.
 #[derive(Drop)]

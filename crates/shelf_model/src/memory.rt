@@ -3,7 +3,7 @@ ghost use Rattle.std.specs.Prelude.{◌≡◌, ◌++◌, ◌∷◌, [], ◌+◌,
 ghost use Rattle.shelf_model.specs.Calls.{content_of, content_from, actions_on, left_of, is_at};
 ghost use Rattle.shelf_model.specs.Crash.{crash_of};
 ghost use Rattle.shelf_model.specs.declared.shelf.Area.{Area};
-ghost use Rattle.shelf_model.specs.Faults.{Rose};
+ghost use Rattle.fault_counts.specs.Counts.{Rose};
 ghost use Rattle.shelf_model.specs.Shelf.{written, Torn, Elapses, Rests, Stands, TellsOthers, TellsSame, Leaves, WhereTold};
 
 use crate::shelf::{Area, Shelf, ShelfErr};

@@ -3,7 +3,7 @@ ghost use Rattle.std.specs.Prelude.{◌≡◌, ◌⊎◌, ◌+◌, ◌<◌, ◌�
 ghost use Rattle.shelf_model.specs.declared.shelf.Area.{Area};
 ghost use Rattle.shelf_model.specs.declared.shelf.ShelfErr.TheVariants.{TooLong, Failed, Memory};
 ghost use Rattle.shelf_model.specs.Shelf.{written, Torn, Elapses, Rests, Stands, TellsOthers, TellsSame, Leaves, WhereTold, Stores};
-ghost use Rattle.shelf_model.specs.Faults.{Rose};
+ghost use Rattle.fault_counts.specs.Counts.{Rose};
 
 use std::alloc::{AllocError, AllocFailed};
 

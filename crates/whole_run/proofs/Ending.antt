@@ -4,7 +4,7 @@ use Rattle.std.specs.Prelude.{slice_index_or}
 use Rattle.std.specs.List.{AllByRecursion}
 use Rattle.std.proofs.lemmas.List.{length-map}
 use Rattle.std.proofs.lemmas.Bool.{cases_lt}
-use Rattle.shelf_model.specs.Faults.{Rose}
+use Rattle.fault_counts.specs.Counts.{Rose}
 use Rattle.shelf_model.specs.Shelf as shelf
 use Rattle.shelf_model.specs.Shelf.{Images, TellsSame}
 use Rattle.unit_set.specs.Slot.{Slot, slot_text}

@@ -1,6 +1,6 @@
 -- What a whole run sees of its shelf, and how slots are loaded from it.
 use Rattle.std.specs.Prelude.{◌≡◌, ◌⊎◌, ℕ, List, Bool, true, false, option_map, Option, None}
-use Rattle.shelf_model.specs.Faults.{Rose}
+use Rattle.fault_counts.specs.Counts.{Rose}
 use Rattle.shelf_model.specs.Shelf.{Told}
 use Rattle.unit_set.specs.Slot.{Slot, slot_text}
 use Rattle.publish.specs.declared.loading.Found.{Found}
