@@ -5,6 +5,7 @@ use Rattle.std.specs.declared.alloc.Global.{Global}
 use Rattle.std.proofs.Math.Seq.{take-nil}
 use Rattle.std.proofs.lemmas.Bool.{cases_Bool}
 use Rattle.fault_counts.specs.Counts.{Rose}
+use Rattle.outside.specs.Told.{Told, Untold, Absent, Holds}
 use Rattle.outside.specs.Sink.{with_bytes}
 use Rattle.journal_text.specs.Shut.{first_fault, shelf_failed}
 use Rattle.unit_set.specs.Slot.{slot_text}
@@ -16,9 +17,9 @@ use Rattle.host_text.specs.declared.cause.Cause.TheVariants as causes
 use Rattle.host_text.proofs.Written.{nothing_more}
 use Rattle.host.specs.Words.{order_of}
 use Rattle.host.specs.Outcome.{Plan, Source, outcome, answers_of, IsSteady}
-use Rattle.host.specs.Answer.{Seen, Lists, no_lists, job_in, all_exit, cause_by, cause_of, Runs, Refuses, Prints, TellsLine, TellsRefusal, Tells, is_of_run, Decides, IsFair, RanOrMemory}
+use Rattle.host.specs.Answer.{Seen, Lists, no_lists, job_in, all_exit, cause_by, cause_of, Runs, Refuses, Prints, TellsLine, TellsRefusal, Tells, is_of_run, is_refusal, Decides, IsFair, RanOrMemory}
 use Rattle.host.proofs.Faulty.{first_failed}
-use Rattle.host.proofs.Told.{same_told, err_cause, just_words, just_refusals, IsRefusal}
+use Rattle.host.proofs.Told.{same_told, err_cause, just_words, just_refusals, IsFree, IsRefusal}
 
 -- ---- what was written
 
@@ -85,10 +86,9 @@ pub record IsRefused (words : List (String Global)) (seen : Seen) (cause : Cause
   pub why : cause ≢ causes.Memory → Refuses words seen.source cause
   pub none : lists ≡ no_lists
   pub line : TellsLine seen (refusal_text cause)
-  pub still : cause ≢ causes.Memory → seen.shelf.told_after ≡ seen.shelf.told_before
 
 refusal : (words : List (String Global)) (seen : Seen) (cause : Cause) (lists : Lists) → cause ≢ causes.Memory → IsRefused words seen cause lists → TellsRefusal words seen cause lists
-refusal words seen cause lists other r = record { why = r.why other; none = r.none; line = r.line; still = r.still other }
+refusal words seen cause lists other r = record { why = r.why other; none = r.none; line = r.line }
 
 pub tells_refusal : (words : List (String Global)) (seen : Seen) (cause : Cause) (lists : Lists) → IsRefused words seen cause lists → Tells words seen cause lists
 tells_refusal words seen causes.Memory lists r = (no_line _ _ _ _ r.line, r.none)
@@ -115,28 +115,46 @@ decides_cause r cause is = subst (λ q. Decides q cause) is (inr refl)
 decides_run : (r : Result Plan Cause) (plan : Plan) (cause : Cause) → Ok plan ≡ r → is_of_run cause ≡ true → Decides r cause
 decides_run r plan cause is run = subst (λ q. Decides q cause) is (inr run)
 
-memory_is : (cause : Cause) → cause ≢ causes.Memory → (a : Result Plan Cause) → a ≡ Err cause → a ≡ Err causes.Memory → ⊥
-memory_is cause other a is memory = other (err_cause cause causes.Memory (sym is ∙ memory))
+-- memory ran out, or a name was not read that is not absent
+abbrev IsFault : (List ℕ → Told) → Cause → Type 0
+IsFault content cause = (cause ≡ causes.Memory) ⊎ ((name : List ℕ) × (cause ≡ causes.Unread name) × (content name ≢ Absent))
 
-pub decided_refusal : (words : List (String Global)) (s : Source) (cause : Cause) → (cause ≢ causes.Memory → Refuses words s cause) → IsSteady s →
+absent_or_not : (t : Told) → (t ≡ Absent) ⊎ (t ≢ Absent)
+absent_or_not Absent = inl refl
+absent_or_not Untold = inr (λ is. cc)
+absent_or_not (Holds bytes) = inr (λ is. cc)
+
+faults_free : (s : Source) → ((name : List ℕ) → s.content name ≢ Untold) → IsFree s (IsFault s.content)
+faults_free s told = record {
+  told = told;
+  memory = inl refl;
+  unread = λ name rose. ⊎_elim (λ absent. inl absent) (λ not. inr (inr (name, refl, not))) (absent_or_not (s.content name));
+}
+
+-- a call that is steady met no such fault
+no_fault : (s : Source) (cause : Cause) → cause ≢ causes.Memory → IsSteady s.content cause → IsFault s.content cause → ⊥
+no_fault s cause other steady (inl memory) = other memory
+no_fault s cause other steady (inr (name, unread, present)) = present (steady.absent name unread)
+
+pub decided_refusal : (words : List (String Global)) (s : Source) (cause : Cause) → (cause ≢ causes.Memory → Refuses words s cause) → IsSteady s.content cause →
     Decides (outcome words (answers_of s.content)) cause
 decided_refusal words s cause why steady =
     ⊎_elim (decides_memory (outcome words (answers_of s.content)) cause)
     (λ other. let r = why other in
-    ⊎_elim (λ memory. absurd (memory_is cause other (outcome words r.answers) r.comes memory))
+    ⊎_elim (λ free. absurd (no_fault s cause other steady (subst (IsFault s.content) (err_cause free.0 cause (sym free.1.0 ∙ r.comes)) free.1.1)))
     (λ same. decides_cause (outcome words (answers_of s.content)) cause (sym r.comes ∙ same))
-    (same_told words s r.answers steady r.agree))
+    (same_told words s (IsFault s.content) r.answers (faults_free s steady.told) r.agree))
     (memory_or_not cause)
 
-no_memory : (plan : Plan) (a : Result Plan Cause) → a ≡ Ok plan → a ≡ Err causes.Memory → ⊥
-no_memory plan a is memory = let same : Ok plan ≡ Err causes.Memory = sym is ∙ memory in cc
+no_failure : (plan : Plan) (cause : Cause) (a : Result Plan Cause) → a ≡ Ok plan → a ≡ Err cause → ⊥
+no_failure plan cause a is fails = let same : Ok plan ≡ Err cause = sym is ∙ fails in cc
 
-pub decided_run : (words : List (String Global)) (seen : Seen) (lists : Lists) (text : List ℕ) (cause : Cause) → Runs words seen.source seen.shelf lists text → is_of_run cause ≡ true → IsSteady seen.source →
+pub decided_run : (words : List (String Global)) (seen : Seen) (lists : Lists) (text : List ℕ) (cause : Cause) → Runs words seen.source seen.shelf lists text → is_of_run cause ≡ true → IsSteady seen.source.content cause →
     Decides (outcome words (answers_of seen.source.content)) cause
 decided_run words seen lists text cause r run steady =
-    ⊎_elim (λ memory. absurd (no_memory r.plan (outcome words r.comes.answers) r.comes.comes memory))
+    ⊎_elim (λ free. absurd (no_failure r.plan free.0 (outcome words r.comes.answers) r.comes.comes free.1.0))
     (λ same. decides_run (outcome words (answers_of seen.source.content)) r.plan cause (sym r.comes.comes ∙ same) run)
-    (same_told words seen.source r.comes.answers steady r.comes.agree)
+    (same_told words seen.source (IsFault seen.source.content) r.comes.answers (faults_free seen.source steady.told) r.comes.agree)
 
 run_by_parts : (fault : Option ℕ) (exits : Bool) → is_of_run (cause_by fault exits) ≡ true
 run_by_parts (Some slot) exits = refl
@@ -169,21 +187,47 @@ failed_rose : (words : List (String Global)) (seen : Seen) (slot : ℕ) (lists :
 failed_rose words seen slot lists p =
     (slot_text (name_at (slots_in_job (job_in p.runs.plan)) slot), p.runs.caused slot (first_failed lists.loads lists.served slot (fault_of (first_fault lists.loads lists.served) (all_exit lists.guests) slot p.how)))
 
-fair_by : (words : List (String Global)) (seen : Seen) (lists : Lists) (cause : Cause) (status : ℕ) → status ≡ status_of cause → Tells words seen cause lists → is_of_run cause ≡ true → IsFair words seen → RanOrMemory status
-fair_by words seen lists causes.Done status is tells run fair = inl is
-fair_by words seen lists causes.GuestEnded status is tells run fair = inr (inl is)
-fair_by words seen lists causes.Sink status is tells run fair = absurd (fair.written tells.failed)
-fair_by words seen lists (causes.Shelf slot) status is tells run fair = let f = failed_rose words seen slot lists tells in absurd (fair.kept f.0 f.1)
-fair_by words seen lists causes.Memory status is tells run fair = inr (inr is)
-fair_by words seen lists causes.Words status is tells run fair = cc
-fair_by words seen lists (causes.Manifest e) status is tells run fair = cc
-fair_by words seen lists (causes.Unread name) status is tells run fair = cc
-fair_by words seen lists (causes.Long name) status is tells run fair = cc
-fair_by words seen lists (causes.Elf name e) status is tells run fair = cc
-fair_by words seen lists (causes.Slots n) status is tells run fair = cc
+-- where no count rose but those of absent names, memory alone is free to come
+fair_free : (words : List (String Global)) (seen : Seen) → IsFair words seen → IsFree seen.source (λ cause. cause ≡ causes.Memory)
+fair_free words seen fair = record { told = fair.told; memory = refl; unread = λ name rose. inl (fair.read name rose) }
 
-pub fair_ran : (words : List (String Global)) (seen : Seen) (lists : Lists) (cause : Cause) (status : ℕ) → status ≡ status_of cause → Tells words seen cause lists →
-    (IsSteady seen.source → Decides (outcome words (answers_of seen.source.content)) cause) → IsFair words seen → RanOrMemory status
-fair_ran words seen lists cause status is tells decided fair =
-    let d : Decides (Ok fair.plan) cause = subst (λ r. Decides r cause) fair.taken (decided fair.steady) in
-    ⊎_elim (λ memory. inr (inr (is ∙ ap status_of memory))) (λ run. fair_by words seen lists cause status is tells run fair) d
+-- so nothing is refused
+never_refused : (words : List (String Global)) (seen : Seen) (cause : Cause) → Refuses words seen.source cause → IsFair words seen → cause ≡ causes.Memory
+never_refused words seen cause r fair =
+    ⊎_elim (λ free. err_cause cause free.0 (sym r.comes ∙ free.1.0) ∙ free.1.1)
+    (λ same. absurd (no_failure fair.plan cause (outcome words (answers_of seen.source.content)) fair.taken (sym same ∙ r.comes)))
+    (same_told words seen.source (λ c. c ≡ causes.Memory) r.answers (fair_free words seen fair) r.agree)
+
+refused_is_memory : (words : List (String Global)) (seen : Seen) (cause : Cause) (lists : Lists) (status : ℕ) → status ≡ status_of cause → IsFair words seen → TellsRefusal words seen cause lists → RanOrMemory status
+refused_is_memory words seen cause lists status is fair tells = inr (inr (is ∙ ap status_of (never_refused words seen cause tells.why fair)))
+
+pub fair_ran : (words : List (String Global)) (seen : Seen) (lists : Lists) (cause : Cause) (status : ℕ) → status ≡ status_of cause → Tells words seen cause lists → IsFair words seen → RanOrMemory status
+fair_ran words seen lists causes.Done status is tells fair = inl is
+fair_ran words seen lists causes.GuestEnded status is tells fair = inr (inl is)
+fair_ran words seen lists causes.Sink status is tells fair = absurd (fair.written tells.failed)
+fair_ran words seen lists (causes.Shelf slot) status is tells fair = let f = failed_rose words seen slot lists tells in absurd (fair.kept f.0 f.1)
+fair_ran words seen lists causes.Memory status is tells fair = inr (inr is)
+fair_ran words seen lists causes.Words status is tells fair = refused_is_memory words seen causes.Words lists status is fair tells
+fair_ran words seen lists (causes.Manifest e) status is tells fair = refused_is_memory words seen (causes.Manifest e) lists status is fair tells
+fair_ran words seen lists (causes.Unread name) status is tells fair = refused_is_memory words seen (causes.Unread name) lists status is fair tells
+fair_ran words seen lists (causes.Long name) status is tells fair = refused_is_memory words seen (causes.Long name) lists status is fair tells
+fair_ran words seen lists (causes.Elf name e) status is tells fair = refused_is_memory words seen (causes.Elf name e) lists status is fair tells
+fair_ran words seen lists (causes.Slots n) status is tells fair = refused_is_memory words seen (causes.Slots n) lists status is fair tells
+
+-- ---- refusals call no shelf
+
+pub runs_refuse_none : (cause : Cause) → is_of_run cause ≡ true → is_refusal cause ≡ true → ⊥
+runs_refuse_none causes.Done run refusal = cc
+runs_refuse_none causes.GuestEnded run refusal = cc
+runs_refuse_none causes.Sink run refusal = cc
+runs_refuse_none (causes.Shelf slot) run refusal = cc
+runs_refuse_none causes.Memory run refusal = cc
+runs_refuse_none causes.Words run refusal = cc
+runs_refuse_none (causes.Manifest e) run refusal = cc
+runs_refuse_none (causes.Unread name) run refusal = cc
+runs_refuse_none (causes.Long name) run refusal = cc
+runs_refuse_none (causes.Elf name e) run refusal = cc
+runs_refuse_none (causes.Slots n) run refusal = cc
+
+pub not_memory : (cause : Cause) → is_refusal cause ≡ true → cause ≢ causes.Memory
+not_memory cause refusal is = let h : false ≡ true = sym (ap is_refusal is) ∙ refusal in cc

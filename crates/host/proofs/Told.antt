@@ -5,6 +5,7 @@ use Rattle.std.specs.declared.alloc.Global.{Global}
 use Rattle.std.specs.Prelude.{nat_le}
 use Rattle.std.proofs.lemmas.Bool.{cases_Bool}
 use Rattle.std.proofs.lemmas.Bool.Decides.{leb_tells}
+use Rattle.outside.specs.Faults.{Rose}
 use Rattle.outside.specs.Told.{Told, Untold, Absent, Holds, ForContent}
 use Rattle.plain_machine.specs.Program.{Program}
 use Rattle.manifest.specs.declared.error.ManifestErr.{ManifestErr}
@@ -16,7 +17,7 @@ use Rattle.unit_set.specs.Slot.{Slot}
 use Rattle.slot_list.specs.Slots.{slots_of}
 use Rattle.host_text.specs.declared.cause.Cause.{Cause}
 use Rattle.host_text.specs.declared.cause.Cause.TheVariants as causes
-use Rattle.host.specs.Outcome.{Place, Manifest, File, Input, limit_of, Answer, Source, Agrees, Answers, AllAgree, ordered, listed, each, taken, programs_of, input_names, limited, outcome, answer_of, answers_of, IsSteady}
+use Rattle.host.specs.Outcome.{Place, Manifest, File, Input, limit_of, Answer, Source, Agrees, Answers, AllAgree, ordered, listed, each, taken, programs_of, input_names, limited, outcome, answer_of, answers_of}
 use Rattle.host.specs.Words.{Order, order_of}
 use Rattle.host.proofs.Steps.{Same, same_steps, fails_in}
 
@@ -54,43 +55,51 @@ same_long Untold limit name n tells same over = absurd (tells refl)
 same_long Absent limit name n tells same over = absurd over
 same_long (Holds content) limit name n tells same over = ap (λ m. Err (causes.Long m)) same ∙ long limit name content over
 
-same_answer : (s : Source) (limit : ℕ) (name : List ℕ) (answer : Answer) → IsSteady s → Agrees s limit name answer → Same answer (answer_of limit name (s.content name))
-same_answer s limit name (Ok bytes) steady agrees = inr (same_bytes (s.content name) limit name bytes (steady.told name) agrees.0 agrees.1)
-same_answer s limit name (Err (causes.Unread n)) steady agrees =
-    inr (ap (λ m. Err (causes.Unread m)) agrees.0 ∙ ap (answer_of limit name) (sym (steady.read name agrees.1)))
-same_answer s limit name (Err (causes.Long n)) steady agrees = inr (same_long (s.content name) limit name n (steady.told name) agrees.0 agrees.1)
-same_answer s limit name (Err causes.Memory) steady agrees = inl refl
-same_answer s limit name (Err causes.Done) steady agrees = absurd agrees
-same_answer s limit name (Err causes.GuestEnded) steady agrees = absurd agrees
-same_answer s limit name (Err causes.Words) steady agrees = absurd agrees
-same_answer s limit name (Err (causes.Manifest e)) steady agrees = absurd agrees
-same_answer s limit name (Err (causes.Elf n e)) steady agrees = absurd agrees
-same_answer s limit name (Err (causes.Slots n)) steady agrees = absurd agrees
-same_answer s limit name (Err (causes.Shelf n)) steady agrees = absurd agrees
-same_answer s limit name (Err causes.Sink) steady agrees = absurd agrees
+-- the causes that are free to come, whatever the files hold: memory runs out, or a name was not read that is not absent
+pub record IsFree (s : Source) (Free : Cause → Type 0) : Type 0 where
+  pub told : (name : List ℕ) → s.content name ≢ Untold
+  pub memory : Free causes.Memory
+  pub unread : (name : List ℕ) → Rose (s.before name) (s.after name) → (s.content name ≡ Absent) ⊎ Free (causes.Unread name)
+
+same_answer : (s : Source) (Free : Cause → Type 0) (limit : ℕ) (name : List ℕ) (answer : Answer) → IsFree s Free → Agrees s limit name answer → Same Free answer (answer_of limit name (s.content name))
+same_answer s Free limit name (Ok bytes) free agrees = inr (same_bytes (s.content name) limit name bytes (free.told name) agrees.0 agrees.1)
+same_answer s Free limit name (Err (causes.Unread n)) free agrees =
+    ⊎_elim (λ absent. inr (ap (λ m. Err (causes.Unread m)) agrees.0 ∙ ap (answer_of limit name) (sym absent)))
+    (λ fault. inl (causes.Unread n, refl, subst (λ m. Free (causes.Unread m)) (sym agrees.0) fault))
+    (free.unread name agrees.1)
+same_answer s Free limit name (Err (causes.Long n)) free agrees = inr (same_long (s.content name) limit name n (free.told name) agrees.0 agrees.1)
+same_answer s Free limit name (Err causes.Memory) free agrees = inl (causes.Memory, refl, free.memory)
+same_answer s Free limit name (Err causes.Done) free agrees = absurd agrees
+same_answer s Free limit name (Err causes.GuestEnded) free agrees = absurd agrees
+same_answer s Free limit name (Err causes.Words) free agrees = absurd agrees
+same_answer s Free limit name (Err (causes.Manifest e)) free agrees = absurd agrees
+same_answer s Free limit name (Err (causes.Elf n e)) free agrees = absurd agrees
+same_answer s Free limit name (Err (causes.Slots n)) free agrees = absurd agrees
+same_answer s Free limit name (Err (causes.Shelf n)) free agrees = absurd agrees
+same_answer s Free limit name (Err causes.Sink) free agrees = absurd agrees
 
 -- ---- the work
 
-same_each : (a b : ℕ → List ℕ → Answer) (names : List (List ℕ)) → ((i : ℕ) (name : List ℕ) → Same (a i name) (b i name)) → Same (each a names) (each b names)
+same_each : (Free : Cause → Type 0) (a b : ℕ → List ℕ → Answer) (names : List (List ℕ)) → ((i : ℕ) (name : List ℕ) → Same Free (a i name) (b i name)) → Same Free (each a names) (each b names)
 unfolding each
-same_each a b [] same = inr refl
-same_each a b (name ∷ names) same =
+same_each Free a b [] same = inr refl
+same_each Free a b (name ∷ names) same =
     same_steps (a 0 name) (b 0 name) _ _ (same 0 name) (λ bytes.
-    same_steps (each (λ i. a (suc i)) names) (each (λ i. b (suc i)) names) _ _ (same_each (λ i. a (suc i)) (λ i. b (suc i)) names (λ i. same (suc i))) (λ rest. inr refl))
+    same_steps (each (λ i. a (suc i)) names) (each (λ i. b (suc i)) names) _ _ (same_each Free (λ i. a (suc i)) (λ i. b (suc i)) names (λ i. same (suc i))) (λ rest. inr refl))
 
-same_outcome : (words : List (String Global)) (a b : Answers) → ((place : Place) (name : List ℕ) → Same (a place name) (b place name)) → Same (outcome words a) (outcome words b)
-same_outcome words a b same =
+same_outcome : (Free : Cause → Type 0) (words : List (String Global)) (a b : Answers) → ((place : Place) (name : List ℕ) → Same Free (a place name) (b place name)) → Same Free (outcome words a) (outcome words b)
+same_outcome Free words a b same =
     same_steps (ordered (order_of words)) (ordered (order_of words)) _ _ (inr refl) (λ order.
     same_steps (a Manifest order.file) (b Manifest order.file) _ _ (same Manifest order.file) (λ text.
     same_steps (listed (manifest_of text)) (listed (manifest_of text)) _ _ (inr refl) (λ listing.
-    same_steps (each (λ i. a (File i)) listing.files) (each (λ i. b (File i)) listing.files) _ _ (same_each _ _ listing.files (λ i. same (File i))) (λ files.
-    same_steps (each (λ i. a (Input i)) (input_names listing.guests)) (each (λ i. b (Input i)) (input_names listing.guests)) _ _ (same_each _ _ (input_names listing.guests) (λ i. same (Input i))) (λ inputs.
+    same_steps (each (λ i. a (File i)) listing.files) (each (λ i. b (File i)) listing.files) _ _ (same_each Free _ _ listing.files (λ i. same (File i))) (λ files.
+    same_steps (each (λ i. a (Input i)) (input_names listing.guests)) (each (λ i. b (Input i)) (input_names listing.guests)) _ _ (same_each Free _ _ (input_names listing.guests) (λ i. same (Input i))) (λ inputs.
     inr refl)))))
 
--- what the work comes to, where the files tell all, unless memory ran out
-pub same_told : (words : List (String Global)) (s : Source) (answers : Answers) → IsSteady s → AllAgree s answers → Same (outcome words answers) (outcome words (answers_of s.content))
-same_told words s answers steady agree =
-    same_outcome words answers (answers_of s.content) (λ place name. same_answer s (limit_of place) name (answers place name) steady (agree place name))
+-- what the work comes to, where the files tell all, unless it fails by such a cause
+pub same_told : (words : List (String Global)) (s : Source) (Free : Cause → Type 0) (answers : Answers) → IsFree s Free → AllAgree s answers → Same Free (outcome words answers) (outcome words (answers_of s.content))
+same_told words s Free answers free agree =
+    same_outcome Free words answers (answers_of s.content) (λ place name. same_answer s Free (limit_of place) name (answers place name) free (agree place name))
 
 -- ---- causes
 

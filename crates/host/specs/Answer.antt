@@ -1,10 +1,11 @@
 -- What each answer of the host says.
-use Rattle.std.specs.Prelude.{◌≡◌, ◌⊎◌, ℕ, Bool, true, false, if◌then◌else◌, List, [], ◌++◌, map, take, Option, Some, None, Result, Ok, Err, String}
+use Rattle.std.specs.Prelude.{◌≡◌, ◌≢◌, ◌⊎◌, ℕ, Bool, true, false, if◌then◌else◌, List, [], ◌++◌, map, take, Option, Some, None, Result, Ok, Err, String}
 use Rattle.std.specs.declared.alloc.Global.{Global}
 use Rattle.std.specs.List.{flat_map, list_all}
 use Rattle.plain_machine.specs.declared.ends.End.{End}
 use Rattle.plain_machine.specs.declared.ends.End.TheVariants as ends
 use Rattle.fault_counts.specs.Counts.{Rose}
+use Rattle.outside.specs.Told.{Absent, Untold}
 use Rattle.outside.specs.Sink.{with_bytes}
 use Rattle.unit_set.specs.Slot.{Slot, slot_text}
 use Rattle.publish.specs.declared.outcome.Loaded.{Loaded}
@@ -21,7 +22,7 @@ use Rattle.host_text.specs.Refusals.{refusal_text}
 use Rattle.host_text.specs.Text.{text_in}
 use Rattle.host_text.specs.declared.cause.Cause.{Cause}
 use Rattle.host_text.specs.declared.cause.Cause.TheVariants as causes
-use Rattle.host.specs.Outcome.{Source, Answers, AllAgree, Plan, outcome, answers_of, IsSteady}
+use Rattle.host.specs.Outcome.{Source, Answers, AllAgree, Plan, outcome, answers_of}
 
 -- What a call sees of the outside: its files, its shelf, and the bytes written and the faults of its sink, before and after.
 pub record Seen : Type 0 where
@@ -126,12 +127,11 @@ abbrev pub TellsLine : Seen → List ℕ → Type 0
 TellsLine seen line = (seen.written_after ≡ with_bytes seen.written_before line)
     ⊎ (Rose seen.sink_before seen.sink_after × ((count : ℕ) × (seen.written_after ≡ with_bytes seen.written_before (take count line))))
 
--- Nothing was run, for this reason, and its line is told; the shelf is as it was.
+-- Nothing was run, for this reason, and its line is told.
 pub record TellsRefusal (words : List (String Global)) (seen : Seen) (cause : Cause) (lists : Lists) : Type 0 where
   pub why : Refuses words seen.source cause
   pub none : lists ≡ no_lists
   pub line : TellsLine seen (refusal_text cause)
-  pub still : seen.shelf.told_after ≡ seen.shelf.told_before
 
 -- what an answer says of the words and the outside
 abbrev pub Tells : List (String Global) → Seen → Cause → Lists → Type 0
@@ -148,6 +148,20 @@ Tells words seen (causes.Elf name e) lists = TellsRefusal words seen (causes.Elf
 Tells words seen (causes.Slots count) lists = TellsRefusal words seen (causes.Slots count) lists
 
 -- ---- what is decided
+
+-- nothing was run, and memory did not run out
+abbrev pub is_refusal : Cause → Bool
+is_refusal causes.Done = false
+is_refusal causes.GuestEnded = false
+is_refusal causes.Sink = false
+is_refusal (causes.Shelf slot) = false
+is_refusal causes.Memory = false
+is_refusal causes.Words = true
+is_refusal (causes.Manifest e) = true
+is_refusal (causes.Unread name) = true
+is_refusal (causes.Long name) = true
+is_refusal (causes.Elf name e) = true
+is_refusal (causes.Slots count) = true
 
 abbrev pub is_of_run : Cause → Bool
 is_of_run causes.Done = true
@@ -167,9 +181,10 @@ abbrev pub Decides : Result Plan Cause → Cause → Type 0
 Decides (Ok plan) cause = (cause ≡ causes.Memory) ⊎ (is_of_run cause ≡ true)
 Decides (Err why) cause = (cause ≡ causes.Memory) ⊎ (cause ≡ why)
 
--- The files tell all, the words, the manifest and the files are taken, and no count of faults rose.
+-- The files tell all, the words, the manifest and the files are taken, and no count of faults rose, but those of absent names.
 pub record IsFair (words : List (String Global)) (seen : Seen) : Type 0 where
-  pub steady : IsSteady seen.source
+  pub told : (name : List ℕ) → seen.source.content name ≢ Untold
+  pub read : (name : List ℕ) → Rose (seen.source.before name) (seen.source.after name) → seen.source.content name ≡ Absent
   pub plan : Plan
   pub taken : outcome words (answers_of seen.source.content) ≡ Ok plan
   pub written : Rose seen.sink_before seen.sink_after → ⊥

@@ -153,7 +153,8 @@ answer_of limit name (Holds bytes) = if nat_le (length bytes) limit then Ok byte
 abbrev pub answers_of : (List ℕ → Told) → Answers
 answers_of content place name = answer_of (limit_of place) name (content name)
 
--- All contents are told, and just absent names were not read.
-pub record IsSteady (s : Source) : Type 0 where
-  pub told : (name : List ℕ) → s.content name ≢ Untold
-  pub read : (name : List ℕ) → Rose (s.before name) (s.after name) → s.content name ≡ Absent
+-- All contents are told, and a name that the call says was not read is absent. No count is compared, since one number may be
+-- the count of every name.
+pub record IsSteady (content : List ℕ → Told) (cause : Cause) : Type 0 where
+  pub told : (name : List ℕ) → content name ≢ Untold
+  pub absent : (name : List ℕ) → cause ≡ causes.Unread name → content name ≡ Absent

@@ -1,8 +1,8 @@
 // The top call.
-ghost use Rattle.std.specs.Prelude.{◌≡◌, ◌≢◌, ◌≤◌, ◌↔◌, None, Err, length, IfOk, IfErr};
+ghost use Rattle.std.specs.Prelude.{◌≡◌, ◌≢◌, ◌≤◌, ◌↔◌, true, None, Err, length, IfOk, IfErr};
 ghost use Rattle.host_text.specs.Refusals.{status_of};
 ghost use Rattle.whole_run.specs.Shelf.{seen_of as shelf_seen};
-ghost use Rattle.host.specs.Answer.{Decides, IsFair, RanOrMemory, Refuses, Runs, Tells, all_exit, cause_of, is_exit, no_lists};
+ghost use Rattle.host.specs.Answer.{Decides, IsFair, RanOrMemory, Refuses, Runs, Tells, all_exit, cause_of, is_exit, is_refusal, no_lists};
 ghost use Rattle.host.specs.Outcome.{answers_of, outcome, IsSteady};
 ghost use Rattle.host.specs.Seen.{seen_of, source_of};
 ghost use Rattle.host.specs.Words.{order_of};
@@ -39,8 +39,9 @@ pub fn host<F: Files, H: Shelf, K: Sink>(
     // Just the words that are not `run FILE` with options are refused as words.
     ensures words { (result.cause ≡ Cause.Words) ↔ (order_of words.now ≡ None) }
     // Where the files tell all, what they hold decides which failure comes, or that the guests are run.
-    ensures decided { IsSteady (source_of F.content F.faults files.old files.new)
-        → Decides (outcome words.now (answers_of (F.content files.old))) result.cause }
+    ensures decided { IsSteady (F.content files.old) result.cause → Decides (outcome words.now (answers_of (F.content files.old))) result.cause }
+    // Before a refusal the shelf is not called.
+    ensures uncalled { is_refusal result.cause ≡ true → shelf.new ≡ shelf.old }
 
     // It does not give up by itself.
     ensures complete { IsFair words.now (seen_of K.written K.faults (source_of F.content F.faults files.old files.new) (shelf_seen H.told H.faults shelf.old shelf.new) out.old out.new)

@@ -62,6 +62,7 @@ opens_later j s s' loads o told before up later opens = record {
   modules = opens.modules;
   codes = opens.codes;
   each = opens.each;
+  is = opens.is;
   opened = λ k within. opened_later s s' (slot_at o k) (opened_at o loads k) told before up later (opens.opened k within);
 }
 
@@ -93,7 +94,7 @@ pub serves_fits : (j : Job) (s : Seen) (t : ℕ) (images : Images) (loads : List
 serves_fits j s t images loads standings h0 h2 start same k within opened =
     let within_o : k < length h0.opening.slots = subst (λ (o : Opening). k < length o.slots) same within in
     let was : slice_index_or h0.opening.shut k true ≡ false =
-    were-open h0.opening h2.journal k start.is within_o (subst (λ (o : Opening). (slot_of (reg o h2.journal) k).shut ≡ false) same opened) in
+    were-open h0.opening h2.journal k start.opens.is within_o (subst (λ (o : Opening). (slot_of (reg o h2.journal) k).shut ≡ false) same opened) in
     subst (λ (o : Opening). Fits s.told_after images t (slot_at o k) (standing_at standings k)) (sym same) (start.fits k within_o was)
 
 -- ---- all of it

@@ -114,12 +114,12 @@ module _ (s : Seen) (t : ℕ) (images : Images) (slots : List Slot) (l : Loads) 
         modules = modules;
         codes = codes;
         each = loaded_each ∙ sym long;
+        is = is;
         opened = opened_by o is_slots is_found is_shut;
       } in
       let start : IsStart j s t images l.loaded l.standings (record { opening = o; journal = [] }) = record {
         empty = refl;
         opens = opens;
-        is = is;
         apart = apart o slots is_slots differ;
         each = standings_each ∙ sym long;
         seqs = seqs_same loaded_each standings_each;

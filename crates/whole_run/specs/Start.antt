@@ -5,7 +5,7 @@ use Rattle.publish.specs.declared.area.Standing.{Standing}
 use Rattle.publish.specs.declared.outcome.Loaded.{Loaded}
 use Rattle.publish.specs.Crash.{Fits}
 use Rattle.registry.specs.Opening.{slot_at}
-use Rattle.registry.specs.History.{History, IsOpening}
+use Rattle.registry.specs.History.{History}
 use Rattle.publisher.specs.Serving.{AreDistinct, seqs_of, standing_at}
 use Rattle.whole_run.specs.Job.{Job}
 use Rattle.whole_run.specs.Shelf.{Seen, seq_loaded}
@@ -16,7 +16,6 @@ use Rattle.whole_run.specs.Whole.{Opens}
 pub record IsStart (j : Job) (s : Seen) (now : ℕ) (images : Images) (loads : List Loaded) (standings : List Standing) (h : History) : Type 0 where
   pub empty : h.journal ≡ []
   pub opens : Opens j s loads h.opening
-  pub is : IsOpening h.opening
   pub apart : AreDistinct h.opening
   pub each : length standings ≡ length h.opening.slots
   pub seqs : seqs_of standings ≡ map seq_loaded loads

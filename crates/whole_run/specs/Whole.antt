@@ -11,6 +11,7 @@ use Rattle.registry.specs.declared.entry.Entry.{Entry}
 use Rattle.registry.specs.declared.entry.Entry.TheVariants.{Finish}
 use Rattle.registry.specs.Opening.{Opening, slot_at}
 use Rattle.registry.specs.State.{due_slot}
+use Rattle.registry.specs.History.{IsOpening}
 use Rattle.registry.specs.Registry.{AreReplied, opened, reg, told_all}
 use Rattle.guest_rounds.specs.Calls.{AreOfGuests}
 use Rattle.guest_rounds.specs.Rounds.{AreFree, AreInOrder, AreTold}
@@ -39,6 +40,8 @@ pub record Opens (j : Job) (s : Seen) (loads : List Loaded) (o : Opening) : Type
   pub modules : o.modules ≡ map (λ m. m.file) j.listing.modules
   pub codes : o.codes ≡ map texts_of j.programs
   pub each : length loads ≡ length o.slots
+  -- of each slot it is said which unit was found, and whether it is shut
+  pub is : IsOpening o
   pub opened : (k : ℕ) → k < length o.slots → IsOpened s (slot_at o k) (opened_at o loads k)
 
 -- Each reply is the registry's at its place in the journal; in the end no slot is due, and no unit is held.
