@@ -141,7 +141,7 @@ pub decided_refusal : (words : List (String Global)) (s : Source) (cause : Cause
 decided_refusal words s cause why steady =
     ⊎_elim (decides_memory (outcome words (answers_of s.content)) cause)
     (λ other. let r = why other in
-    ⊎_elim (λ free. absurd (no_fault s cause other steady (subst (IsFault s.content) (err_cause free.0 cause (sym free.1.0 ∙ r.comes)) free.1.1)))
+    ⊎_elim (λ free. absurd (no_fault s cause other steady (subst (IsFault s.content) (err_cause free.0 cause (sym free.1 ∙ r.comes)) free.2)))
     (λ same. decides_cause (outcome words (answers_of s.content)) cause (sym r.comes ∙ same))
     (same_told words s (IsFault s.content) r.answers (faults_free s steady.told) r.agree))
     (memory_or_not cause)
@@ -152,7 +152,7 @@ no_failure plan cause a is fails = let same : Ok plan ≡ Err cause = sym is ∙
 pub decided_run : (words : List (String Global)) (seen : Seen) (lists : Lists) (text : List ℕ) (cause : Cause) → Runs words seen.source seen.shelf lists text → is_of_run cause ≡ true → IsSteady seen.source.content cause →
     Decides (outcome words (answers_of seen.source.content)) cause
 decided_run words seen lists text cause r run steady =
-    ⊎_elim (λ free. absurd (no_failure r.plan free.0 (outcome words r.comes.answers) r.comes.comes free.1.0))
+    ⊎_elim (λ free. absurd (no_failure r.plan free.0 (outcome words r.comes.answers) r.comes.comes free.1))
     (λ same. decides_run (outcome words (answers_of seen.source.content)) r.plan cause (sym r.comes.comes ∙ same) run)
     (same_told words seen.source (IsFault seen.source.content) r.comes.answers (faults_free seen.source steady.told) r.comes.agree)
 
@@ -194,7 +194,7 @@ fair_free words seen fair = record { told = fair.told; memory = refl; unread = �
 -- so nothing is refused
 never_refused : (words : List (String Global)) (seen : Seen) (cause : Cause) → Refuses words seen.source cause → IsFair words seen → cause ≡ causes.Memory
 never_refused words seen cause r fair =
-    ⊎_elim (λ free. err_cause cause free.0 (sym r.comes ∙ free.1.0) ∙ free.1.1)
+    ⊎_elim (λ free. err_cause cause free.0 (sym r.comes ∙ free.1) ∙ free.2)
     (λ same. absurd (no_failure fair.plan cause (outcome words (answers_of seen.source.content)) fair.taken (sym same ∙ r.comes)))
     (same_told words seen.source (λ c. c ≡ causes.Memory) r.answers (fair_free words seen fair) r.agree)
 

@@ -73,3 +73,10 @@ returns-in-Ok-clause-uncalled g c = λ refusal.
 pub returns-clause-uncalled : goal.returns-clause-uncalled
 returns-clause-uncalled g c = λ refusal.
     c.in-Err.ensures.still (not_memory c.in-Err.cause (subst (λ cause. is_refusal cause ≡ true) c.ended-in-Err.ensures.cause refusal))
+
+pub returns-in-Ok-print-clause-told : goal.returns-in-Ok-print-clause-told
+returns-in-Ok-print-clause-told g c =
+    let seen : Seen = seen_of g.K.Sink.written g.K.Sink.faults (source_of g.F.Files.content g.F.Files.faults c.args.files.now c.work.new.files)
+    (shelf_seen g.H.Shelf.told g.H.Shelf.faults c.args.shelf.now c.work.new.shelf) c.args.out.now c.print.new.out in
+    subst (λ lists. Tells c.args.words.now seen c.ended.result.cause lists) (sym c.ended.ensures.lists)
+    (tells_run c.args.words.now seen c.in-Ok.told c.ended.result.cause c.in-Ok.text.items (c.ended.ensures.cause ∙ c.cause_of.ensures) c.in-Ok.ensures.done (let h = c.in-Ok-print.ensures.whole in rw c.deref.ensures.value at h))
