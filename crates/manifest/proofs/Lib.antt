@@ -1,5 +1,8 @@
 pub mod Counting
 pub mod Faults
+pub mod Distinct
+pub mod Named
 pub mod Walking
+pub mod Putting
 pub mod Whole
 mod Utf8

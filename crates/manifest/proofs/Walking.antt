@@ -53,7 +53,7 @@ module _ {Row : Type 0} (row_of : Members → Row) (rules : List Row → Members
   walk_end all rows i walk = (sym walk.faults, sym (append-nil rows) ∙ walk.values)
 
 -- a value of the list, and those behind it
-items_from : (vs : List Value) (i : ℕ) (v : Value) → i < length vs → v ≡ get_or vs i v → items_view (drop i vs) ≡ item (view v) (items_view (drop (i + 1) vs))
+pub items_from : (vs : List Value) (i : ℕ) (v : Value) → i < length vs → v ≡ get_or vs i v → items_view (drop i vs) ≡ item (view v) (items_view (drop (i + 1) vs))
 items_from vs i v h is = items_view-drop vs i v h ∙ ap (λ x. item (view x) (items_view (drop (i + 1) vs))) (sym is)
 
 -- the members of what is a table

@@ -1,10 +1,12 @@
 -- The rules on a whole manifest, part by part.
-use Rattle.std.proofs.Common.{◌≡◌, ℕ, List, ◌∷◌, ◌++◌, Some, None, ap, sym, ◌∙◌}
-use Rattle.std.specs.Prelude.{codes}
+use Rattle.std.proofs.Common.{◌≡◌, ℕ, ◌<◌, ◌≤◌, true, List, ◌∷◌, ◌++◌, length, Some, None, ap, sym, subst, ◌∙◌}
+use Rattle.std.specs.Prelude.{codes, All}
+use Rattle.std.proofs.lemmas.List.{length-map}
 use Rattle.toml.specs.Data.{Members, get_member}
 use Rattle.manifest.specs.declared.error.ManifestErr.{ManifestErr}
 use Rattle.manifest.specs.declared.path.Place.TheVariants as places
-use Rattle.manifest.specs.Entries.{ModuleEntry, GuestEntry, Listing}
+use Rattle.manifest.specs.Entries.{ModuleEntry, GuestEntry, Listing, IsListing}
+use Rattle.manifest.specs.Names.{is_file_name}
 use Rattle.manifest.specs.Keys.{Rule, first_failing, first_of, first_in, unknown_rules}
 use Rattle.manifest.specs.Manifest.{files_at, files_rules, modules_at, modules_rules, module_names, guests_at, guests_rules, manifest_rules, listing_of}
 use Rattle.manifest.proofs.Faults.{first_in-append}
@@ -53,3 +55,21 @@ pub listing_is : (t : Members) (files : List (List ℕ)) (modules : List ModuleE
     → modules ≡ modules_at files (get_member (codes "module") t) → guests ≡ guests_at (module_names modules) (get_member (codes "guest") t)
     → (let l : Listing = record { files = files; modules = modules; guests = guests } in l ≡ listing_of t)
 listing_is t files modules guests a b c = cc
+
+-- what every manifest keeps
+pub is_listing : (files kept : List (List ℕ)) (modules : List ModuleEntry) (names : List (List ℕ)) (guests : List GuestEntry) → kept ≡ files → names ≡ module_names modules
+    → 1 ≤ length files → length files ≤ 32 → All (λ n. is_file_name n ≡ true) files → 1 ≤ length modules → length modules ≤ 32 → All (λ m. m.file < length files) modules
+    → 1 ≤ length guests → length guests ≤ 64 → All (λ g. g.«module» < length names) guests → IsListing kept modules guests
+is_listing files kept modules names guests same named some_file few_files spelled some_module few_modules have_files some_guest few_guests have_modules =
+    let count : length names ≡ length modules = ap length named ∙ length-map modules (λ m. m.name) in
+    rw same (record {
+      some_file = some_file;
+      few_files = few_files;
+      some_module = some_module;
+      few_modules = few_modules;
+      some_guest = some_guest;
+      few_guests = few_guests;
+      files_spelled = spelled;
+      have_files = have_files;
+      have_modules = subst (λ n. All (λ g. g.«module» < n) guests) count have_modules;
+    })

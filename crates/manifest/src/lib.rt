@@ -9,6 +9,7 @@ mod files;
 mod guest;
 mod lists;
 mod module;
+mod name_table;
 mod names;
 mod numbers;
 mod path;

@@ -92,10 +92,10 @@ fn manifest_in(alloc: Global, table: &Table) -> Result<Manifest, ManifestErr>
     check_keys(alloc, table, Place::Top)?;
     let files = files_in(alloc, table)?;
     let modules = modules_in(alloc, table, &files)?;
-    let guests = guests_in(alloc, table, &modules)?;
+    let guests = guests_in(alloc, table, &modules.names)?;
     Ok(Manifest {
-        files,
-        modules,
+        files: files.to_names(alloc)?,
+        modules: modules.rows,
         guests,
     })
 }

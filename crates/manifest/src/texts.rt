@@ -1,15 +1,16 @@
-ghost use Rattle.std.specs.Prelude.{◌≡◌, ◌≢◌, ◌<◌, true, IfOk, OnOk, IfSome, length, map, option_map, is_some, codes};
+ghost use Rattle.std.specs.Prelude.{◌≡◌, ◌≢◌, ◌<◌, true, false, IfOk, OnOk, IfSome, length, map, option_map, is_some, codes};
 ghost use Rattle.std.specs.Option.{ForSome};
 ghost use Rattle.toml.specs.Data.{get_member, as_str};
 ghost use Rattle.toml.specs.View.{view, table_view};
 ghost use Rattle.rv_decode.specs.declared.ins.Isa.TheVariants as sets;
 ghost use Rattle.probe_tools.specs.declared.tool.Tool.TheVariants as tools;
-ghost use Rattle.manifest.specs.Names.{is_file_name};
-ghost use Rattle.manifest.specs.Keys.{text_at, text_rules, tool_of, isa_of, tool_rules, isa_rules, input_rules, meant, input_at, first_failing, path_of};
+ghost use Rattle.manifest.specs.Names.{is_name, is_file_name, is_among};
+ghost use Rattle.manifest.specs.Keys.{text_at, text_rules, name_rules, tool_of, isa_of, tool_rules, isa_rules, input_rules, meant, input_at, first_failing, path_of};
 ghost use Rattle.manifest.specs.Manifest.{Reads};
 
 use crate::error::ManifestErr;
-use crate::names::is_file_name;
+use crate::name_table::NameTable;
+use crate::names::{is_file_name, is_name};
 use crate::path::{Place, path};
 use cc_base::Name;
 use probe_tools::Tool;
@@ -40,6 +41,28 @@ pub fn text_at<'a>(
         Some(text) => Ok(text),
         None => Err(ManifestErr::Kind(path(alloc, place, key)?)),
     }
+}
+
+/// The name at the key `name`, which is none of these.
+#[tactic(auto, unfolding(crate::specs::Keys::name_rules))]
+pub fn new_name_at(
+    alloc: Global,
+    table: &Table,
+    place: Place,
+    before: &NameTable,
+) -> Result<Name, ManifestErr>
+    ensures reads { let v = get_member (codes "name") (table_view table.now) in Reads (λ n. n) (first_failing (name_rules before.now (path_of place (codes "name")) v)) (text_at v) result }
+    ensures spelled { IfOk result (λ n. is_name n ≡ true) }
+    ensures new { IfOk result (λ n. is_among n before.now ≡ false) }
+{
+    let text = text_at(alloc, table, place, "name")?;
+    if !is_name(text.as_bytes()) {
+        return Err(ManifestErr::BadName(path(alloc, place, "name")?));
+    }
+    if before.has(text.as_bytes()) {
+        return Err(ManifestErr::Repeated(path(alloc, place, "name")?));
+    }
+    Ok(Name::of(alloc, text.as_bytes())?)
 }
 
 fn tool_of(text: &str) -> Option<Tool>

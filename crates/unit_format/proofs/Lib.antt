@@ -1,5 +1,6 @@
 pub mod Loop
 pub mod Words
+pub mod Named
 pub mod Fields
 pub mod FragmentLaws
 pub mod UnitLaws

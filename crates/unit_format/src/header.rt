@@ -1,6 +1,8 @@
 ghost use Rattle.std.specs.Prelude.{◌≡◌, Ok, IfOk};
 ghost use Rattle.cc_base.specs.Image.{FitsSegment};
-ghost use Rattle.unit_format.specs.Steps.{Gives};
+ghost use Rattle.unit_set.specs.Slot.{slot_of};
+ghost use Rattle.unit_format.specs.declared.error.TextErr.TheVariants as errors;
+ghost use Rattle.unit_format.specs.Steps.{Gives, known};
 ghost use Rattle.unit_format.specs.Text.{code};
 ghost use Rattle.unit_format.specs.Reading.{version_at, isa_at, slot_at, image_at, same_isa};
 
@@ -8,6 +10,7 @@ use crate::bytes::{front_of, u8_at, u32_at};
 use crate::error::TextErr;
 use rv_decode::Isa;
 use std::alloc::Global;
+use unit_set::laws::names_are_read;
 use unit_set::{NameErr, SlotName};
 
 /// The version of a text.
@@ -57,6 +60,18 @@ fn is_same(a: Isa, b: Isa) -> bool
     }
 }
 
+// The name that these bytes spell.
+fn name_of(alloc: Global, bytes: &[u8]) -> Result<SlotName, TextErr>
+    ensures { Gives (λ s. s) result (known (slot_of bytes.now) errors.Name) }
+{
+    names_are_read();
+    match SlotName::read(alloc, bytes) {
+        Ok(slot) => Ok(slot),
+        Err(NameErr::Bad) => Err(TextErr::Name),
+        Err(NameErr::Memory) => Err(TextErr::Memory),
+    }
+}
+
 /// The name.
 #[tactic(auto, unfolding(crate::specs::Reading::slot_at))]
 pub fn slot_in(alloc: Global, isa: Isa, bytes: &[u8]) -> Result<(SlotName, &[u8]), TextErr>
@@ -64,11 +79,7 @@ pub fn slot_in(alloc: Global, isa: Isa, bytes: &[u8]) -> Result<(SlotName, &[u8]
 {
     let (count, rest) = u8_at(bytes)?;
     let (name, rest) = front_of(count as usize, rest)?;
-    let slot = match SlotName::read(alloc, name) {
-        Ok(slot) => slot,
-        Err(NameErr::Bad) => return Err(TextErr::Name),
-        Err(NameErr::Memory) => return Err(TextErr::Memory),
-    };
+    let slot = name_of(alloc, name)?;
     if !is_same(slot.isa, isa) {
         return Err(TextErr::Name);
     }

@@ -1,8 +1,0 @@
-use Rattle.std.proofs.Common.{◌≡◌, drop}
-use Rattle.std.specs.Str.{bytes_eq}
-use Rattle.std.specs.List.{position_from}
-use Rattle.manifest.specs.Manifest.{module_names}
-use Rattle.manifest.proofs.names.place_of_module.Given as goal
-
-abbrev pub invariant-loop-i : goal.invariant-loop-i
-invariant-loop-i l = position_from (bytes_eq l.text) l.i (module_names (drop l.i l.modules)) ≡ position_from (bytes_eq l.text) 0 (module_names l.modules)
