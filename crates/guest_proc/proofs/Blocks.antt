@@ -22,16 +22,17 @@ use Rattle.fragment.specs.Exits.{exits_at}
 use Rattle.fragment.proofs.Values.{own_size}
 use Rattle.report.specs.Rows.{Rows}
 use Rattle.engine.specs.declared.block.Left.{Left}
+use Rattle.engine.specs.declared.block.Left.TheVariants as lefts
 use Rattle.engine.specs.Runs.{RunsBlock, onward}
 use Rattle.engine.specs.Seeing.{with_events}
 use Rattle.engine.specs.Standing.{StandsIn, SameCode, IsStored, state}
-use Rattle.engine.specs.Words.{marks_before}
-use Rattle.block_ledger.specs.Ledger.{Ledger, left_by, written}
+use Rattle.engine.specs.Words.{DoesWords, marks_before}
+use Rattle.block_ledger.specs.Ledger.{Ledger, left_by, view, written}
 use Rattle.block_ledger.specs.Requests.{Asking}
 use Rattle.block_ledger.specs.Traced.{Scheme, Trace, range_of, direct, is_direct}
 use Rattle.guest_proc.specs.Begun.{BlockBegins}
 use Rattle.guest_proc.specs.Fresh.{AreFresh, AreMapped, block_in}
-use Rattle.guest_proc.specs.Process.{Went, trace, process}
+use Rattle.guest_proc.specs.Process.{CallsSystem, Went, trace, process}
 use Rattle.guest_proc.proofs.Put.{found-at}
 use Rattle.guest_proc.proofs.Kept.{fresh-same, fresh-left, fresh-stored, mapped-same, mapped-stored, mapped-segments, segments-left}
 use Rattle.guest_proc.proofs.Marks.{block-traced, leaving}
@@ -143,6 +144,21 @@ ran-block scheme max block other fuel rest cpu c m after io left how rows more l
     here' (subst (λ f. BlockBegins scheme f led ready) (sym one) begun)
     (counted io ∙ ap (λ x. with_events (events x (marks_before block.words (state cpu m io) (fuel - rest))) rows) (sym tool_is))
     did
+
+-- the block that stands ready comes to a call
+pub calls-block : (max : ℕ) (block : Parts) (fuel rest : ℕ) (cpu c : Cpu) (m after : Memory) (io : Io) (how : Left) (rows : Rows) (led : Ledger) → 0 < max → IsMemory m → block_in rows.tool max cpu.isa m cpu.pc ≡ Some block → view led cpu.pc ≡ Some block →
+    ((k : ℕ) (i : Io) → 0 < k → StandsIn m cpu.isa rows.tool k block → RunsBlock k block (fuel - rest) fuel (state cpu m i) how rest (state c after i)) → how ≡ lefts.Asked →
+    CallsSystem (process cpu m io fuel rows led)
+calls-block max block fuel rest cpu c m after io how rows led some good here ready runs is =
+    let ran = runs max io some (ready-stands rows.tool max cpu.isa m cpu.pc block some good here) in
+    record {
+      block = block;
+      ready = ready;
+      words = fuel - rest;
+      fuel = omega (arith, ran.spent);
+      state = state c after io;
+      calls = subst (λ l. DoesWords block (fuel - rest) (state cpu m io) l (state c after io)) is ran.words;
+    }
 
 pub no_io : Io
 no_io = record { input = []; output = []; heap = None; map_calls = 0; mapped = [] }

@@ -14,7 +14,7 @@ use Rattle.guest_proc.specs.declared.stop.Stop.{Stop}
 use Rattle.guest_proc.specs.declared.stop.Stop.TheVariants as stop
 use Rattle.guest_proc.specs.Begun.{AreMade}
 use Rattle.guest_proc.specs.Kept.{Keeps}
-use Rattle.guest_proc.specs.Process.{Advances, CameToWant, GoesOn, Process, RanOn, RanOne, StopsIn, WantsMemory, Went, nothing, stop_of, trace}
+use Rattle.guest_proc.specs.Process.{Advances, CameToWant, GoesOn, Process, RanOn, RanOne, RanThrough, StopsIn, Through, WantsMemory, Went, nothing, stop_of, trace}
 
 traced_append : (w : Setting) (scheme : Scheme) (xs ys : List (State × Bool)) (t : Trace) → traced w scheme (xs ++ ys) t ≡ traced w scheme ys (traced w scheme xs t)
 traced_append w scheme [] ys t = refl
@@ -61,24 +61,46 @@ one-stops scheme old new s (inr within) = inr (within.0, inr within.1)
 -- ---- what a loop of blocks keeps
 
 pub record WentOn (scheme : Scheme) (old new : Process) : Type 0 where
-  pub goes : GoesOn scheme [] old new
-  pub spends : (new ≡ old) ⊎ (new.fuel < old.fuel)
+  pub blocks : List Process
+  pub through : Through scheme old blocks new
 
 pub start-on : (scheme : Scheme) (p : Process) → WentOn scheme p p
-start-on scheme p = record { goes = no-blocks scheme p; spends = inl refl }
+start-on scheme p = record { blocks = []; through = refl }
 
-less_fuel : (old mid new : Process) → (mid ≡ old) ⊎ (mid.fuel < old.fuel) → new.fuel < mid.fuel → new.fuel < old.fuel
-less_fuel old mid new (inl same) less = subst (λ (p : Process). new.fuel < p.fuel) same less
-less_fuel old mid new (inr before) less = omega (arith, before, less)
+through-more : (scheme : Scheme) (old mid new : Process) (ps : List Process) → Through scheme old ps mid → Advances scheme mid new None → Through scheme old (ps ++ new ∷ []) new
+through-more scheme old mid new [] same one = (subst (λ p. Advances scheme p new None) same one, refl)
+through-more scheme old mid new (p ∷ ps) t one = (t.0, through-more scheme p mid new ps t.1 one)
 
 -- one more block
 pub one-more-on : (scheme : Scheme) (old mid new : Process) → WentOn scheme old mid → Advances scheme mid new None → WentOn scheme old new
-one-more-on scheme old mid new a b = record { goes = went-both scheme [] [] old mid new nothing _ a.goes b.1; spends = inr (less_fuel old mid new a.spends b.0.less) }
+one-more-on scheme old mid new a b = record { blocks = a.blocks ++ new ∷ []; through = through-more scheme old mid new a.blocks a.through b }
 
 -- and the stop
-pub stop-on : (scheme : Scheme) (old mid new : Process) (s : Stop) → WentOn scheme old mid → Advances scheme mid new (Some s) → RanOn scheme [] old new s
-stop-on scheme old mid new s a (inl before) =
-    let there = subst (λ p. WentOn scheme old p) (sym before.0) a in
+pub stop-on : (scheme : Scheme) (old mid new : Process) (s : Stop) → WentOn scheme old mid → Advances scheme mid new (Some s) → RanThrough scheme old new s
+stop-on scheme old mid new s a b = record { blocks = a.blocks; last = mid; through = a.through; stops = b }
+
+pub came-to-want : (scheme : Scheme) (old mid : Process) → WentOn scheme old mid → WantsMemory scheme mid → CameToWant scheme old
+came-to-want scheme old mid a wants = record { blocks = a.blocks; reached = mid; through = a.through; wants = wants }
+
+-- ---- how far blocks one after the other come
+
+record Reaches (scheme : Scheme) (old new : Process) : Type 0 where
+  goes : GoesOn scheme [] old new
+  spends : (new ≡ old) ⊎ (new.fuel < old.fuel)
+
+less_fuel : (old mid new : Process) → mid.fuel < old.fuel → (new ≡ mid) ⊎ (new.fuel < mid.fuel) → new.fuel < old.fuel
+less_fuel old mid new less (inl same) = subst (λ (p : Process). p.fuel < old.fuel) (sym same) less
+less_fuel old mid new less (inr more) = omega (arith, less, more)
+
+reaches-through : (scheme : Scheme) (old new : Process) (ps : List Process) → Through scheme old ps new → Reaches scheme old new
+reaches-through scheme old new [] same = record { goes = subst (λ p. GoesOn scheme [] old p) (sym same) (no-blocks scheme old); spends = inl same }
+reaches-through scheme old new (p ∷ ps) t =
+    let rest = reaches-through scheme p new ps t.1 in
+    record { goes = went-both scheme [] [] old p new nothing _ t.0.1 rest.goes; spends = inr (less_fuel old p new t.0.0.less rest.spends) }
+
+stops-behind : (scheme : Scheme) (old mid new : Process) (s : Stop) → Reaches scheme old mid → Advances scheme mid new (Some s) → RanOn scheme [] old new s
+stops-behind scheme old mid new s a (inl before) =
+    let there = subst (λ p. Reaches scheme old p) (sym before.0) a in
     record {
       comes = inl (there.goes, ap (stop_of scheme.pool) before.0 ∙ before.1);
       spends = elim there.spends [
@@ -86,10 +108,17 @@ stop-on scheme old mid new s a (inl before) =
         | inr less ↦ inr less
       ];
     }
-stop-on scheme old mid new s a (inr within) = record { comes = inr (stops-both scheme [] [] old mid new s a.goes within.1); spends = inr (less_fuel old mid new a.spends within.0.less) }
+stops-behind scheme old mid new s a (inr within) = record {
+  comes = inr (stops-both scheme [] [] old mid new s a.goes within.1);
+  spends = inr (elim a.spends [
+    | inl same ↦ subst (λ (p : Process). new.fuel < p.fuel) same within.0.less
+    | inr less ↦ omega (arith, less, within.0.less)
+  ]);
+}
 
-pub came-to-want : (scheme : Scheme) (old mid : Process) → WentOn scheme old mid → WantsMemory scheme mid → CameToWant scheme old
-came-to-want scheme old mid a wants = record { reached = mid; went = a.goes; wants = wants }
+-- they are a run up to the stop
+pub ran-on : (scheme : Scheme) (old new : Process) (s : Stop) → RanThrough scheme old new s → RanOn scheme [] old new s
+ran-on scheme old new s ran = stops-behind scheme old ran.last new s (reaches-through scheme old ran.last ran.blocks ran.through) ran.stops
 
 pub keeps-all : (p : Process) → Keeps p p
 keeps-all p = record { images = λ i. refl; mapped = refl; isa = refl; stand = λ x kind s. s }

@@ -32,7 +32,7 @@ use Rattle.guest_proc.specs.Begun.{AreMade, BlockBegins, HasBegun}
 use Rattle.guest_proc.specs.Called.{CallDone}
 use Rattle.guest_proc.specs.Fresh.{AreFresh, AreMapped, block_in}
 use Rattle.guest_proc.specs.Kept.{IsReady, Keeps, StopsWell, image_at}
-use Rattle.guest_proc.specs.Process.{Advances, CallEnds, IsOneBlock, LacksRow, Process, RanBlock, WantsMemory, process, stop_at, stop_of, stop_with, trace}
+use Rattle.guest_proc.specs.Process.{Advances, CallEnds, CallsSystem, IsOneBlock, LacksRow, Process, RanBlock, WantsMemory, process, stop_at, stop_of, stop_with, trace}
 use Rattle.guest_proc.proofs.Kept.{fresh-begun, mapped-segments, one-more, segments-begun}
 
 -- ---- the begin
@@ -121,7 +121,7 @@ told_scheme scheme p = record { tool = p.report.tool; max = scheme.max; pool = s
 
 pub record AfterBlock (scheme : Scheme) (old new : Process) (r : Ran) : Type 0 where
   pub came : RanBlock scheme old new r
-  pub one : IsOneBlock old new
+  pub one : IsOneBlock scheme old new
   pub ready : IsReady (told_scheme scheme new) new
   pub keeps : Keeps old new
 
@@ -138,7 +138,7 @@ after-block scheme cpu c m after io fuel rest rows more led ready last r was too
     let one : last.counts.blocks ≡ led.counts.blocks + 1 = ap (λ k. k.blocks) counts ∙ ap (λ l. l.counts.blocks) b.ledger ∙ one-more b.block led in
     record {
       came = ran scheme io led b.block tool refl b.ready (begins-so scheme (process cpu m io fuel rows led) rows.tool scheme.max cpu.isa m ready begins.room b);
-      one = record { less = less; one = one };
+      one = record { begins = none; less = less; one = one };
       ready = record {
         aligned = even;
         fresh = subst (λ t. AreFresh t scheme.max c.isa after last) (sym same_tool) fresh;
@@ -159,7 +159,7 @@ after-block scheme cpu c m after io fuel rest rows more led ready last r was too
 
 pub record AfterCall (scheme : Scheme) (old new : Process) (s : Option Stop) : Type 0 where
   pub ends : CallEnds scheme old new s
-  pub one : IsOneBlock old new
+  pub one : IsOneBlock scheme old new
   pub ready : IsReady (told_scheme scheme new) new
   pub keeps : Keeps old new
   pub asks : StopsWell s new.state.io
@@ -168,7 +168,7 @@ pub after-call : (scheme : Scheme) (old : Process) (cpu c : Cpu) (m after : Memo
     CallDone (process cpu m io fuel rows led) (process c after now fuel rows last) s → AfterCall scheme old (process c after now fuel rows last) s
 after-call scheme old cpu c m after io now fuel rows led last s some b done = record {
   ends = done.ends scheme old b.came;
-  one = record { less = b.one.less; one = ap (λ k. k.blocks) done.counts ∙ b.one.one };
+  one = record { begins = b.one.begins; less = b.one.less; one = ap (λ k. k.blocks) done.counts ∙ b.one.one };
   ready = record {
     aligned = done.aligned;
     fresh = done.fresh rows.tool scheme.max some b.ready.fresh;
@@ -201,21 +201,31 @@ live_block : (o : Option Parts) → is_some o ≡ true → (f : Parts) × (o ≡
 live_block None h = absurd (cc)
 live_block (Some f) h = (f, refl)
 
+-- what was live stands ready as it did before the begin
+stood : (tool : Tool) (max : ℕ) (isa : Isa) (m : Memory) (a : ℕ) (led ready : Ledger) (block : Parts) → AreFresh tool max isa m led → HasBegun tool max isa m a led ready → view ready a ≡ Some block → is_live led a ≡ true → view led a ≡ Some block
+stood tool max isa m a led ready block fresh b is live =
+    let f = live_block (view led a) live in
+    f.1 ∙ sym (fresh a f.0 f.1) ∙ b.fresh ∙ sym b.ready ∙ is
+
 -- an event of the block has no row, or the block was built for this begin
 pub lacks-so : (scheme : Scheme) (cpu : Cpu) (m : Memory) (io : Io) (fuel : ℕ) (rows : Rows) (led ready : Ledger) → IsReady scheme (process cpu m io fuel rows led) → scheme.tool ≡ rows.tool → stop_of scheme.pool (process cpu m io fuel rows led) ≡ None →
     HasBegun rows.tool scheme.max cpu.isa m cpu.pc led ready → LacksRow (process cpu m io fuel rows ready) → WantsMemory scheme (process cpu m io fuel rows led)
 lacks-so scheme cpu m io fuel rows led ready was tool none b lacks = elim (cases_Bool (is_live led cpu.pc)) [
   | inr gone ↦ (none, inl gone)
   | inl live ↦
-      let f = live_block (view led cpu.pc) live in
-      let there : block_in rows.tool scheme.max cpu.isa m cpu.pc ≡ Some f.0 = ap (λ t. block_in t scheme.max cpu.isa m cpu.pc) (sym tool) ∙ was.fresh cpu.pc f.0 f.1 in
-      let same : f.0 ≡ b.block = same_Some f.0 b.block (sym there ∙ b.fresh) in
-      let other : b.block ≡ lacks.block = same_Some b.block lacks.block (sym b.ready ∙ lacks.ready) in
-      (none, inr (inl (record { block = lacks.block; ready = f.1 ∙ ap Some (same ∙ other); words = lacks.words; state = lacks.state; report = lacks.report; wants = lacks.wants })))
+      let fresh = subst (λ t. AreFresh t scheme.max cpu.isa m led) tool was.fresh in
+      (none, inr (inl (record { block = lacks.block; ready = stood rows.tool scheme.max cpu.isa m cpu.pc led ready lacks.block fresh b lacks.ready live; words = lacks.words; state = lacks.state; report = lacks.report; wants = lacks.wants })))
 ]
 
-pub asks-so : (scheme : Scheme) (old q : Process) → stop_of scheme.pool old ≡ None → AfterBlock scheme old q ran.Asks → WantsMemory scheme old
-asks-so scheme old q none b = (none, inr (inr (q, b.came)))
+-- the block calls the system, or was built for this begin
+pub calls-so : (scheme : Scheme) (cpu : Cpu) (m : Memory) (io : Io) (fuel : ℕ) (rows : Rows) (led ready : Ledger) → IsReady scheme (process cpu m io fuel rows led) → scheme.tool ≡ rows.tool → stop_of scheme.pool (process cpu m io fuel rows led) ≡ None →
+    HasBegun rows.tool scheme.max cpu.isa m cpu.pc led ready → CallsSystem (process cpu m io fuel rows ready) → WantsMemory scheme (process cpu m io fuel rows led)
+calls-so scheme cpu m io fuel rows led ready was tool none b calls = elim (cases_Bool (is_live led cpu.pc)) [
+  | inr gone ↦ (none, inl gone)
+  | inl live ↦
+      let fresh = subst (λ t. AreFresh t scheme.max cpu.isa m led) tool was.fresh in
+      (none, inr (inr (record { block = calls.block; ready = stood rows.tool scheme.max cpu.isa m cpu.pc led ready calls.block fresh b calls.ready live; words = calls.words; fuel = calls.fuel; state = calls.state; calls = calls.calls })))
+]
 
 pub gone-so : (scheme : Scheme) (old : Process) → stop_of scheme.pool old ≡ None → is_live old.ledger old.state.cpu.pc ≡ false → WantsMemory scheme old
 gone-so scheme old none gone = (none, inl gone)

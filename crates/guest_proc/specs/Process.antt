@@ -1,5 +1,5 @@
 -- A guest that runs, as contracts see it, and how far it comes with a block, and with many.
-use Rattle.std.specs.Prelude.{◌≡◌, ℕ, ◌+◌, ◌<◌, ◌==◌, ◌⊎◌, Bool, false, if◌then◌else◌, List, [], ◌++◌, Option, Some, None, Result, Ok, Err}
+use Rattle.std.specs.Prelude.{◌≡◌, ℕ, ◌+◌, ◌<◌, ◌≤◌, ◌==◌, ◌⊎◌, Bool, false, if◌then◌else◌, List, [], ◌∷◌, ◌++◌, Option, Some, None, Result, Ok, Err}
 use Rattle.plain_machine.specs.declared.access.Access.{Access}
 use Rattle.plain_machine.specs.declared.cpu.Cpu.{Cpu}
 use Rattle.plain_machine.specs.declared.ends.End.TheVariants as ends
@@ -15,8 +15,10 @@ use Rattle.plain_machine.specs.Cut.{Marked, marked, with_marks, over}
 use Rattle.plain_machine.specs.Events.{events}
 use Rattle.fragment.specs.Parts.{Parts}
 use Rattle.report.specs.Rows.{Rows}
+use Rattle.engine.specs.declared.block.Left.TheVariants as left
 use Rattle.engine.specs.Seeing.{WantsRow, with_events}
 use Rattle.engine.specs.Standing.{state}
+use Rattle.engine.specs.Words.{DoesWords}
 use Rattle.block_ledger.specs.Ledger.{Ledger, is_live, view, wants_room}
 use Rattle.block_ledger.specs.Requests.{Asking}
 use Rattle.block_ledger.specs.Traced.{Scheme, Trace, traced, after_call}
@@ -109,15 +111,31 @@ abbrev pub CallEnds : Scheme → Process → Process → Option Stop → Type 0
 CallEnds scheme old new None = GoesOn scheme [] old new
 CallEnds scheme old new (Some s) = StopsIn scheme [] old new s
 
--- one block was run
-pub record IsOneBlock (old new : Process) : Type 0 where
+-- one block was run, before which no stop came
+pub record IsOneBlock (scheme : Scheme) (old new : Process) : Type 0 where
+  pub begins : stop_of scheme.pool old ≡ None
   pub less : new.fuel < old.fuel
   pub one : new.ledger.counts.blocks ≡ old.ledger.counts.blocks + 1
 
 -- At most one block was run: a stop came before it or in it, or none did.
 abbrev pub Advances : Scheme → Process → Process → Option Stop → Type 0
-Advances scheme old new None = IsOneBlock old new × GoesOn scheme [] old new
-Advances scheme old new (Some s) = ((new ≡ old) × (stop_of scheme.pool old ≡ Some s)) ⊎ (IsOneBlock old new × StopsIn scheme [] old new s)
+Advances scheme old new None = IsOneBlock scheme old new × GoesOn scheme [] old new
+Advances scheme old new (Some s) = ((new ≡ old) × (stop_of scheme.pool old ≡ Some s)) ⊎ (IsOneBlock scheme old new × StopsIn scheme [] old new s)
+
+-- ---- blocks one after the other
+
+-- from old to new, through these: each is one block behind the one before it
+abbrev pub Through : Scheme → Process → List Process → Process → Type 0
+Through scheme old [] new = new ≡ old
+Through scheme old (next ∷ more) new = Advances scheme old next None × Through scheme next more new
+
+-- Blocks were run one after the other, and then this stop came, before the next one or in it. So no stop came before the
+-- begin of any, and the pool is full exactly where there is no room for the block that would be next.
+pub record RanThrough (scheme : Scheme) (old new : Process) (s : Stop) : Type 0 where
+  pub blocks : List Process
+  pub last : Process
+  pub through : Through scheme old blocks last
+  pub stops : Advances scheme last new (Some s)
 
 -- a stop came in it, or directly behind it
 abbrev pub Comes : Scheme → List Asking → Process → Process → Stop → Type 0
@@ -125,8 +143,8 @@ Comes scheme made old new s = (GoesOn scheme made old new × (stop_of scheme.poo
 
 -- At most one block was run: a stop came before it, in it or directly behind it, or none did.
 abbrev pub RanOne : Scheme → Process → Process → Option Stop → Type 0
-RanOne scheme old new None = IsOneBlock old new × GoesOn scheme [] old new × (stop_of scheme.pool new ≡ None)
-RanOne scheme old new (Some s) = ((new ≡ old) × (stop_of scheme.pool old ≡ Some s)) ⊎ (IsOneBlock old new × Comes scheme [] old new s)
+RanOne scheme old new None = IsOneBlock scheme old new × GoesOn scheme [] old new × (stop_of scheme.pool new ≡ None)
+RanOne scheme old new (Some s) = ((new ≡ old) × (stop_of scheme.pool old ≡ Some s)) ⊎ (IsOneBlock scheme old new × Comes scheme [] old new s)
 
 -- Blocks were run up to a stop, and these requests were made: it came before the next block, or in the last one. Where none
 -- was run, nothing changed.
@@ -145,12 +163,28 @@ pub record LacksRow (p : Process) : Type 0 where
   pub report : Rows
   pub wants : WantsRow block words p.state state p.report report
 
+-- the block that stands ready ends with a call of the system, up to which its words were done one after the other
+pub record CallsSystem (p : Process) : Type 0 where
+  pub block : Parts
+  pub ready : view p.ledger p.state.cpu.pc ≡ Some block
+  pub words : ℕ
+  pub fuel : words ≤ p.fuel
+  pub state : State
+  pub calls : DoesWords block words p.state left.Asked state
+
+-- how the block that stands ready is left, where it calls the system
+abbrev pub LeavesBy : Process → Ran → Type 0
+LeavesBy p ran.Asks = CallsSystem p
+LeavesBy p ran.On = Unit {0}
+LeavesBy p (ran.Ended end) = Unit {0}
+
 -- the next block is to be built, or one of its events has no row, or it calls the system
 abbrev pub WantsMemory : Scheme → Process → Type 0
-WantsMemory scheme p = (stop_of scheme.pool p ≡ None) × ((is_live p.ledger p.state.cpu.pc ≡ false) ⊎ (LacksRow p ⊎ ((q : Process) × Asks scheme p q)))
+WantsMemory scheme p = (stop_of scheme.pool p ≡ None) × ((is_live p.ledger p.state.cpu.pc ≡ false) ⊎ (LacksRow p ⊎ CallsSystem p))
 
--- some blocks were run, and the next one wants memory
+-- blocks were run one after the other, and the next one wants memory
 pub record CameToWant (scheme : Scheme) (old : Process) : Type 0 where
+  pub blocks : List Process
   pub reached : Process
-  pub went : GoesOn scheme [] old reached
+  pub through : Through scheme old blocks reached
   pub wants : WantsMemory scheme reached

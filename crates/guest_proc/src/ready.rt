@@ -8,7 +8,7 @@ ghost use Rattle.block_ledger.specs.Ledger.{Ledger, view};
 ghost use Rattle.block_ledger.specs.Traced.{Scheme, direct};
 ghost use Rattle.guest_proc.specs.Begun.{BlockBegins};
 ghost use Rattle.guest_proc.specs.Fresh.{AreFresh, AreMapped};
-ghost use Rattle.guest_proc.specs.Process.{RanBlock, LacksRow, process};
+ghost use Rattle.guest_proc.specs.Process.{LacksRow, LeavesBy, RanBlock, process};
 
 use crate::stop::Ran;
 use block_book::Book;
@@ -41,6 +41,7 @@ pub fn run_ready<B: Book>(
         view (B.ledger book.old) cpu.old.pc ≡ Some block → BlockBegins scheme block led (B.ledger book.old) →
         RanBlock scheme (process cpu.old mem.old io fuel.old report.old led) (process cpu.new mem.new io fuel.new report.new (B.ledger book.new)) ran) }
     ensures wants { OnErr result ((io : Io) → LacksRow (process cpu.old mem.old io fuel.old report.old (B.ledger book.old))) }
+    ensures leaves { IfOk result (λ ran. (io : Io) → LeavesBy (process cpu.old mem.old io fuel.old report.old (B.ledger book.old)) ran) }
     ensures fresh { IfOk result (λ ran. AreFresh report.old.tool max cpu.new.isa mem.new (B.ledger book.new)) }
     ensures mapped { IfOk result (λ ran. AreMapped mem.new (B.ledger book.new)) }
     ensures regions { SameRegions mem.old mem.new }

@@ -5,7 +5,7 @@ ghost use Rattle.block_ledger.specs.Ledger.{new_ledger};
 ghost use Rattle.region_laws.specs.Heap.{HeapIsData};
 ghost use Rattle.guest_proc.specs.Begun.{AreMade};
 ghost use Rattle.guest_proc.specs.Kept.{IsReady, Keeps, StopsWell, process_of, scheme_of};
-ghost use Rattle.guest_proc.specs.Process.{Advances, CameToWant, RanOn, RanOne, WantsMemory, stop_of};
+ghost use Rattle.guest_proc.specs.Process.{Advances, CameToWant, RanOn, RanOne, RanThrough, WantsMemory, stop_of};
 
 use crate::begin::stop_before;
 use crate::block::run_one_block;
@@ -118,6 +118,8 @@ impl<B: Book> Proc<B> {
         maker: &mut M,
         steps: &mut Steps<L>,
     ) -> Result<Stop, AllocError>
+        ensures blocks { IfOk result (RanThrough (scheme_of self.old.at self.old.limits)
+            (process_of self.old.at (B.ledger self.old.book)) (process_of self.new.at (B.ledger self.new.book))) }
         ensures ran { IfOk result (RanOn (scheme_of self.old.at self.old.limits) [] (process_of self.old.at (B.ledger self.old.book)) (process_of self.new.at (B.ledger self.new.book))) }
         ensures keeps { OnOk result (Keeps (process_of self.old.at (B.ledger self.old.book)) (process_of self.new.at (B.ledger self.new.book))) }
         ensures asks { IfOk result (λ stop. StopsWell (Some stop) self.new.at.io) }
@@ -141,6 +143,8 @@ impl<B: Book> Proc<B> {
 
     /// The same, where each block that isn't live is built.
     pub fn run<L: Ledger>(&mut self, steps: &mut Steps<L>) -> Result<Stop, AllocError>
+        ensures blocks { IfOk result (RanThrough (scheme_of self.old.at self.old.limits)
+            (process_of self.old.at (B.ledger self.old.book)) (process_of self.new.at (B.ledger self.new.book))) }
         ensures ran { IfOk result (RanOn (scheme_of self.old.at self.old.limits) [] (process_of self.old.at (B.ledger self.old.book)) (process_of self.new.at (B.ledger self.new.book))) }
         ensures keeps { OnOk result (Keeps (process_of self.old.at (B.ledger self.old.book)) (process_of self.new.at (B.ledger self.new.book))) }
         ensures asks { IfOk result (λ stop. StopsWell (Some stop) self.new.at.io) }

@@ -4,8 +4,8 @@ use Rattle.guest_proc.specs.declared.stop.Ran.TheVariants as ran
 use Rattle.guest_proc.specs.Begun.{HasBegun}
 use Rattle.plain_machine.specs.Memory.{fetched}
 use Rattle.guest_proc.specs.Kept.{IsReady, Keeps, process_of, scheme_of}
-use Rattle.guest_proc.specs.Process.{process, stop_of}
-use Rattle.guest_proc.proofs.One.{begun-then, call-advances, stop-first, stops-well, same-then, AfterBlock, AfterCall, after-block, after-call, any_err, asks-so, begun-fresh, if_ok, if_then, lacks-so, made-so}
+use Rattle.guest_proc.specs.Process.{CallsSystem, LeavesBy, process, stop_of}
+use Rattle.guest_proc.proofs.One.{begun-then, call-advances, stop-first, stops-well, same-then, AfterBlock, AfterCall, after-block, after-call, any_err, begun-fresh, calls-so, if_ok, if_then, lacks-so, made-so}
 use Rattle.guest_proc.proofs.More.{keeps-all}
 use Rattle.guest_proc.proofs.block.run_one_block.Goals as goal
 
@@ -111,11 +111,9 @@ pub returns-in-Asks-clause-wants : goal.returns-in-Asks-clause-wants
 returns-in-Asks-clause-wants g c =
     let none : stop_of c.args.limits.pool (process_of c.args.at.now (g.B.Book.ledger c.args.book.now)) ≡ None = stop-first c.args.limits.pool (process_of c.args.at.now (g.B.Book.ledger c.args.book.now)) c.in_ok-before.before c.if-at-eq0.false c.in_ok-before.ensures.stop ∙ c.in_default.is in
     let b : HasBegun c.args.at.now.report.tool c.args.limits.max c.args.at.now.cpu.isa c.args.at.now.mem c.args.at.now.cpu.pc (g.B.Book.ledger c.args.book.now) (g.B.Book.ledger c.begin.new.book) = begun-then c.tool-tool.result c.args.at.now.report.tool c.args.limits.max c.args.at.now.cpu.isa c.args.at.now.mem c.args.at.now.cpu.pc (g.B.Book.ledger c.args.book.now) (g.B.Book.ledger c.begin.new.book) c.in_ok-before.before c.tool-tool.ensures c.in_default.is c.in_ok-before.ensures.begun in
-    let after : AfterBlock (scheme_of c.args.at.now c.args.limits) (process_of c.args.at.now (g.B.Book.ledger c.args.book.now)) (process c.run_ready.new.cpu c.run_ready.new.mem c.args.at.now.io c.run_ready.new.fuel c.run_ready.new.report (g.B.Book.ledger c.run_ready.new.book)) c.in_ok-run_ready.field-0 =
-    after-block (scheme_of c.args.at.now c.args.limits) c.args.at.now.cpu c.run_ready.new.cpu c.args.at.now.mem c.run_ready.new.mem c.args.at.now.io c.args.at.now.fuel c.run_ready.new.fuel c.args.at.now.report c.run_ready.new.report (g.B.Book.ledger c.args.book.now) (g.B.Book.ledger c.begin.new.book) (g.B.Book.ledger c.run_ready.new.book) c.in_ok-run_ready.field-0 c.requires.ready refl none b
-    (λ s i l f. c.in_ok-run_ready.ensures.ran s i l f) c.in_ok-run_ready.ensures.fresh c.in_ok-run_ready.ensures.mapped c.in_ok-run_ready.ensures.regions c.in_ok-run_ready.ensures.segments c.in_ok-run_ready.ensures.counts c.in_ok-run_ready.ensures.aligned c.in_ok-run_ready.ensures.less c.in_ok-run_ready.ensures.small c.in_ok-run_ready.ensures.tool c.in_ok-run_ready.ensures.isa in
-    let so : AfterBlock (scheme_of c.args.at.now c.args.limits) (process_of c.args.at.now (g.B.Book.ledger c.args.book.now)) (process c.run_ready.new.cpu c.run_ready.new.mem c.args.at.now.io c.run_ready.new.fuel c.run_ready.new.report (g.B.Book.ledger c.run_ready.new.book)) (ran.Asks) = subst (λ r. AfterBlock (scheme_of c.args.at.now c.args.limits) (process_of c.args.at.now (g.B.Book.ledger c.args.book.now)) (process c.run_ready.new.cpu c.run_ready.new.mem c.args.at.now.io c.run_ready.new.fuel c.run_ready.new.report (g.B.Book.ledger c.run_ready.new.book)) r) c.in-Asks.is after in
-    any_err c.call.result _ (asks-so (scheme_of c.args.at.now c.args.limits) (process_of c.args.at.now (g.B.Book.ledger c.args.book.now)) (process c.run_ready.new.cpu c.run_ready.new.mem c.args.at.now.io c.run_ready.new.fuel c.run_ready.new.report (g.B.Book.ledger c.run_ready.new.book)) none so)
+    let calls : CallsSystem (process c.args.at.now.cpu c.args.at.now.mem c.args.at.now.io c.args.at.now.fuel c.args.at.now.report (g.B.Book.ledger c.begin.new.book)) =
+    subst (λ r. LeavesBy (process c.args.at.now.cpu c.args.at.now.mem c.args.at.now.io c.args.at.now.fuel c.args.at.now.report (g.B.Book.ledger c.begin.new.book)) r) c.in-Asks.is (c.in_ok-run_ready.ensures.leaves c.args.at.now.io) in
+    any_err c.call.result _ (calls-so (scheme_of c.args.at.now c.args.limits) c.args.at.now.cpu c.args.at.now.mem c.args.at.now.io c.args.at.now.fuel c.args.at.now.report (g.B.Book.ledger c.args.book.now) (g.B.Book.ledger c.begin.new.book) c.requires.ready refl none b calls)
 
 pub returns-in-Some-clause-ran : goal.returns-in-Some-clause-ran
 returns-in-Some-clause-ran g c =

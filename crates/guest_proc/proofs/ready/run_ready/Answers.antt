@@ -9,7 +9,7 @@ use Rattle.block_ledger.specs.Traced.{after_call, direct, range_of}
 use Rattle.guest_proc.specs.Fresh.{block_in}
 use Rattle.guest_proc.specs.Process.{nothing, trace}
 use Rattle.guest_proc.proofs.Put.{found-at}
-use Rattle.guest_proc.proofs.Blocks.{leave-small, mapped-put, kept-stored, no_io, on_err, own-stands, ran-block}
+use Rattle.guest_proc.proofs.Blocks.{calls-block, leave-small, mapped-put, kept-stored, no_io, on_err, own-stands, ran-block}
 use Rattle.guest_proc.proofs.ready.run_ready.Goals as goal
 
 pub run_block-requires-clause-begins : goal.run_block-requires-clause-begins
@@ -122,3 +122,10 @@ returns-in-Touched-clause-mapped g c =
 
 pub returns-in_err-left-clause-tool : goal.returns-in_err-left-clause-tool
 returns-in_err-left-clause-tool g c = ap (λ r. r.tool) (c.in_err-left.ensures.wants no_io).counted
+
+pub returns-in-Asked-clause-leaves : goal.returns-in-Asked-clause-leaves
+returns-in-Asked-clause-leaves g c = λ io.
+    let seen : view (g.B.Book.ledger c.args.book.now) c.args.cpu.now.pc ≡ Some c.in-Some.block.now = ap (view (g.B.Book.ledger c.args.book.now)) (sym c.requires.here) ∙ sym c.in-Some.ensures in
+    let there : block_in c.args.report.now.tool c.args.max c.args.cpu.now.isa c.args.mem.now c.args.cpu.now.pc ≡ Some c.in-Some.block.now = c.requires.fresh c.args.cpu.now.pc c.in-Some.block.now seen in
+    calls-block c.args.max c.in-Some.block.now c.args.fuel.now c.run_block.new.fuel c.args.cpu.now c.run_block.new.cpu c.args.mem.now c.run_block.new.mem io c.in_ok-left.left c.args.report.now (g.B.Book.ledger c.args.book.now) c.requires.some c.laws.ensures there seen
+    (λ k i. c.in_ok-left.ensures.runs k i) c.in-Asked.is

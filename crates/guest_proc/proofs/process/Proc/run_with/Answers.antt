@@ -1,7 +1,7 @@
 use Rattle.std.proofs.Common.{◌≡◌, ◌∙◌, ◌⊎◌, true, refl, sym, subst, inl, inr}
 use Rattle.guest_proc.specs.Kept.{process_of, scheme_of}
 use Rattle.guest_proc.specs.Process.{CameToWant, Advances, WantsMemory}
-use Rattle.guest_proc.proofs.More.{came-to-want, keeps-all, keeps-both, made-both, made-none, one-more-on, start-on, stop-on}
+use Rattle.guest_proc.proofs.More.{came-to-want, keeps-all, keeps-both, made-both, made-none, one-more-on, ran-on, start-on, stop-on}
 use Rattle.guest_proc.proofs.One.{any_err}
 use Rattle.guest_proc.proofs.process.Proc.run_with.Goals as goal
 
@@ -23,10 +23,15 @@ returns-in_err-stop-clause-wants g c =
     ] in
     any_err c.from_residual.result _ wants
 
+pub returns-in-Some-clause-blocks : goal.returns-in-Some-clause-blocks
+returns-in-Some-clause-blocks g c =
+    let here : Advances (scheme_of c.args.self.now.at c.args.self.now.limits) (process_of c.loop-stop.self.at (g.B.Book.ledger c.loop-stop.self.book)) (process_of c.advance.new.self.at (g.B.Book.ledger c.advance.new.self.book)) c.in_ok-stop.field-0 = subst (λ s. Advances s (process_of c.loop-stop.self.at (g.B.Book.ledger c.loop-stop.self.book)) (process_of c.advance.new.self.at (g.B.Book.ledger c.advance.new.self.book)) c.in_ok-stop.field-0) c.loop-stop.invariant.scheme c.in_ok-stop.ensures.ran in
+    stop-on (scheme_of c.args.self.now.at c.args.self.now.limits) (process_of c.args.self.now.at (g.B.Book.ledger c.args.self.now.book)) (process_of c.loop-stop.self.at (g.B.Book.ledger c.loop-stop.self.book)) (process_of c.advance.new.self.at (g.B.Book.ledger c.advance.new.self.book)) c.in-Some.stop c.loop-stop.invariant.went (subst (λ o. Advances (scheme_of c.args.self.now.at c.args.self.now.limits) (process_of c.loop-stop.self.at (g.B.Book.ledger c.loop-stop.self.book)) (process_of c.advance.new.self.at (g.B.Book.ledger c.advance.new.self.book)) o) c.in-Some.is here)
+
 pub returns-in-Some-clause-ran : goal.returns-in-Some-clause-ran
 returns-in-Some-clause-ran g c =
     let here : Advances (scheme_of c.args.self.now.at c.args.self.now.limits) (process_of c.loop-stop.self.at (g.B.Book.ledger c.loop-stop.self.book)) (process_of c.advance.new.self.at (g.B.Book.ledger c.advance.new.self.book)) c.in_ok-stop.field-0 = subst (λ s. Advances s (process_of c.loop-stop.self.at (g.B.Book.ledger c.loop-stop.self.book)) (process_of c.advance.new.self.at (g.B.Book.ledger c.advance.new.self.book)) c.in_ok-stop.field-0) c.loop-stop.invariant.scheme c.in_ok-stop.ensures.ran in
-    stop-on (scheme_of c.args.self.now.at c.args.self.now.limits) (process_of c.args.self.now.at (g.B.Book.ledger c.args.self.now.book)) (process_of c.loop-stop.self.at (g.B.Book.ledger c.loop-stop.self.book)) (process_of c.advance.new.self.at (g.B.Book.ledger c.advance.new.self.book)) c.in-Some.stop c.loop-stop.invariant.went (subst (λ o. Advances (scheme_of c.args.self.now.at c.args.self.now.limits) (process_of c.loop-stop.self.at (g.B.Book.ledger c.loop-stop.self.book)) (process_of c.advance.new.self.at (g.B.Book.ledger c.advance.new.self.book)) o) c.in-Some.is here)
+    ran-on (scheme_of c.args.self.now.at c.args.self.now.limits) (process_of c.args.self.now.at (g.B.Book.ledger c.args.self.now.book)) (process_of c.advance.new.self.at (g.B.Book.ledger c.advance.new.self.book)) c.in-Some.stop (stop-on (scheme_of c.args.self.now.at c.args.self.now.limits) (process_of c.args.self.now.at (g.B.Book.ledger c.args.self.now.book)) (process_of c.loop-stop.self.at (g.B.Book.ledger c.loop-stop.self.book)) (process_of c.advance.new.self.at (g.B.Book.ledger c.advance.new.self.book)) c.in-Some.stop c.loop-stop.invariant.went (subst (λ o. Advances (scheme_of c.args.self.now.at c.args.self.now.limits) (process_of c.loop-stop.self.at (g.B.Book.ledger c.loop-stop.self.book)) (process_of c.advance.new.self.at (g.B.Book.ledger c.advance.new.self.book)) o) c.in-Some.is here))
 
 pub returns-in-Some-clause-keeps : goal.returns-in-Some-clause-keeps
 returns-in-Some-clause-keeps g c = keeps-both (process_of c.args.self.now.at (g.B.Book.ledger c.args.self.now.book)) (process_of c.loop-stop.self.at (g.B.Book.ledger c.loop-stop.self.book)) (process_of c.advance.new.self.at (g.B.Book.ledger c.advance.new.self.book)) c.loop-stop.invariant.keeps c.in_ok-stop.ensures.keeps
