@@ -7,6 +7,7 @@ use Rattle.plain_machine.specs.declared.ends.End.TheVariants as ends
 use Rattle.fault_counts.specs.Counts.{Rose}
 use Rattle.outside.specs.Told.{Absent, Untold}
 use Rattle.outside.specs.Sink.{with_bytes}
+use Rattle.shelf_model.specs.Shelf.{Told as ShelfTold, TellsSame}
 use Rattle.unit_set.specs.Slot.{Slot, slot_text}
 use Rattle.publish.specs.declared.outcome.Loaded.{Loaded}
 use Rattle.publish.specs.declared.outcome.Pub.{Pub}
@@ -16,7 +17,7 @@ use Rattle.journal_text.specs.Journal.{journal_lines}
 use Rattle.journal_text.specs.Shut.{first_fault, shelf_failed, shut_lines}
 use Rattle.guest_loop.specs.Ended.{GuestEnd}
 use Rattle.whole_run.specs.Job.{Job, job_of, slots_in_job}
-use Rattle.whole_run.specs.Shelf.{Seen as ShelfSeen}
+use Rattle.whole_run.specs.Shelf.{ChangesOnly, Seen as ShelfSeen}
 use Rattle.whole_run.specs.Whole.{IsWhole, Whole}
 use Rattle.host_text.specs.Refusals.{refusal_text}
 use Rattle.host_text.specs.Text.{text_in}
@@ -80,6 +81,16 @@ pub record Runs (words : List (String Global)) (s : Source) (shelf : ShelfSeen) 
   -- where the shelf failed on a slot, the count of its name rose
   pub caused : (slot : ℕ) → shelf_failed lists.loads lists.served slot ≡ true →
       Rose (shelf.faults_before (slot_text (name_at (slots_in_job (job_in plan)) slot))) (shelf.faults_after (slot_text (name_at (slots_in_job (job_in plan)) slot)))
+
+-- A plan comes, and the areas of the shelf change by publications of its slots alone.
+pub record ChangesIts (words : List (String Global)) (s : Source) (before after : ShelfTold) : Type 0 where
+  pub plan : Plan
+  pub comes : Comes words s plan
+  pub changes : ChangesOnly (slots_in_job (job_in plan)) before after
+
+-- so, or what it tells stays
+abbrev pub Changes : List (String Global) → Source → ShelfTold → ShelfTold → Type 0
+Changes words s before after = TellsSame before after ⊎ ChangesIts words s before after
 
 -- Some answers to the reads, which all agree with what the files tell, give this cause.
 pub record Refuses (words : List (String Global)) (s : Source) (cause : Cause) : Type 0 where

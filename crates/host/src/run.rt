@@ -1,7 +1,8 @@
 // The guests run, and their text is made.
 ghost use Rattle.std.specs.Prelude.{◌≡◌, ◌≤◌, length, map, IfOk};
-ghost use Rattle.whole_run.specs.Shelf.{seen_of};
-ghost use Rattle.host.specs.Answer.{lists_of, run_text};
+ghost use Rattle.whole_run.specs.Job.{slots_in_job};
+ghost use Rattle.whole_run.specs.Shelf.{ChangesOnly, seen_of};
+ghost use Rattle.host.specs.Answer.{job_in, lists_of, run_text};
 ghost use Rattle.host.specs.Prepared.{IsReady, plan_in};
 ghost use Rattle.host.specs.Run.{IsRunOf};
 
@@ -47,6 +48,7 @@ pub fn run<H: Shelf>(
     requires { IsReady prepared }
     ensures run { IfOk result (λ both. IsRunOf (plan_in prepared.entry) (seen_of H.told H.faults shelf.old shelf.new) both.1 both.0.items) }
     ensures few { IfOk result (λ both. length both.1.loads ≤ 64) }
+    ensures areas { ChangesOnly (slots_in_job (job_in (plan_in prepared.entry))) (H.told shelf.old) (H.told shelf.new) }
 {
     let Prepared {
         order,

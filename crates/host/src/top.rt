@@ -2,7 +2,7 @@
 ghost use Rattle.std.specs.Prelude.{◌≡◌, ◌≢◌, ◌≤◌, ◌↔◌, true, None, Err, length, IfOk, IfErr};
 ghost use Rattle.host_text.specs.Refusals.{status_of};
 ghost use Rattle.whole_run.specs.Shelf.{seen_of as shelf_seen};
-ghost use Rattle.host.specs.Answer.{Decides, IsFair, RanOrMemory, Refuses, Runs, Tells, all_exit, cause_of, is_exit, is_refusal, no_lists};
+ghost use Rattle.host.specs.Answer.{Changes, Decides, IsFair, RanOrMemory, Refuses, Runs, Tells, all_exit, cause_of, is_exit, is_refusal, no_lists};
 ghost use Rattle.host.specs.Outcome.{answers_of, outcome, IsSteady};
 ghost use Rattle.host.specs.Seen.{seen_of, source_of};
 ghost use Rattle.host.specs.Words.{order_of};
@@ -40,7 +40,8 @@ pub fn host<F: Files, H: Shelf, K: Sink>(
     ensures words { (result.cause ≡ Cause.Words) ↔ (order_of words.now ≡ None) }
     // Where the files tell all, what they hold decides which failure comes, or that the guests are run.
     ensures decided { IsSteady (F.content files.old) result.cause → Decides (outcome words.now (answers_of (F.content files.old))) result.cause }
-    // Before a refusal the shelf is not called.
+    // Whatever it answers, the shelf is changed by publications of the run's slots alone. Before a refusal it is not called.
+    ensures areas { Changes words.now (source_of F.content F.faults files.old files.new) (H.told shelf.old) (H.told shelf.new) }
     ensures uncalled { is_refusal result.cause ≡ true → shelf.new ≡ shelf.old }
 
     // It does not give up by itself.
@@ -70,6 +71,7 @@ fn work<F: Files, H: Shelf>(
     ensures done { IfOk result (λ both. Runs words.now (source_of F.content F.faults files.old files.new) (shelf_seen H.told H.faults shelf.old shelf.new) both.1 both.0.items) }
     ensures few { IfOk result (λ both. length both.1.loads ≤ 64) }
     ensures refused { IfErr result (λ cause. cause ≢ Cause.Memory → Refuses words.now (source_of F.content F.faults files.old files.new) cause) }
+    ensures areas { Changes words.now (source_of F.content F.faults files.old files.new) (H.told shelf.old) (H.told shelf.new) }
     ensures still { IfErr result (λ cause. cause ≢ Cause.Memory → shelf.new ≡ shelf.old) }
     ensures words { order_of words.now ≡ None → result ≡ Err Cause.Words }
 {

@@ -3,3 +3,4 @@ pub mod Behind
 pub mod Starting
 pub mod Telling
 pub mod Ending
+pub mod Changing

@@ -8,6 +8,7 @@ use Rattle.publish.specs.declared.outcome.Loaded.{Loaded}
 use Rattle.publish.specs.declared.outcome.Loaded.TheVariants.{Held, Nothing, Unread}
 use Rattle.publish.specs.Load.{FindsAll, loaded_of}
 use Rattle.registry.specs.Content.{Content, content_of}
+use Rattle.publisher.specs.Areas.{KeepsStrangers, OnlyPublishes}
 
 -- what it tells, and how often it failed on each name, before and after
 pub record Seen : Type 0 where
@@ -18,6 +19,11 @@ pub record Seen : Type 0 where
 
 abbrev pub seen_of : {H : Type 0} → (H → Told) → (H → List ℕ → ℕ) → H → H → Seen
 seen_of told faults before after = record { told_before = told before; told_after = told after; faults_before = faults before; faults_after = faults after }
+
+-- The areas change by publications of these slots alone, one after another, and none of another name does.
+pub record ChangesOnly (slots : List Slot) (before after : Told) : Type 0 where
+  pub only : OnlyPublishes slots before after
+  pub strangers : KeepsStrangers slots before after
 
 -- how a load is told, the unit that it found, and whether the slot is shut
 pub record Opened : Type 0 where

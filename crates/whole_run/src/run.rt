@@ -7,7 +7,7 @@ ghost use Rattle.slot_list.specs.Laws.{AreDistinct};
 ghost use Rattle.registry.specs.declared.entry.Entry.TheVariants.{Finish};
 ghost use Rattle.registry.specs.History.{Adds, state_of};
 ghost use Rattle.whole_run.specs.Job.{job_of, slots_in_job};
-ghost use Rattle.whole_run.specs.Shelf.{seen_of};
+ghost use Rattle.whole_run.specs.Shelf.{ChangesOnly, seen_of};
 ghost use Rattle.whole_run.specs.Whole.{IsWhole};
 ghost use Rattle.whole_run.specs.Crew.{HaveRun};
 
@@ -42,6 +42,8 @@ pub fn run_whole<H: Shelf>(
     requires few { length slots.items ≤ 64 }
     requires names { AreDistinct (module_names manifest.now.modules) }
     ensures whole { IfOk result (λ w. IsWhole (job_of manifest.now elfs.items inputs.now) (seen_of H.told H.faults shelf.old shelf.new) w) }
+    // Whatever it answers.
+    ensures areas { ChangesOnly (slots_in_job (job_of manifest.now elfs.items inputs.now)) (H.told shelf.old) (H.told shelf.new) }
     ensures never_falls { (n : List ℕ) → H.faults shelf.old n ≤ H.faults shelf.new n }
 {
     let Start {
