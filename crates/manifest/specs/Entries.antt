@@ -1,9 +1,9 @@
 -- What a manifest says.
-use Rattle.std.specs.Prelude.{◌≡◌, ℕ, ◌%◌, ◌≤◌, ◌<◌, true, List, Option, length, All}
+use Rattle.std.specs.Prelude.{◌≡◌, ℕ, ◌%◌, ◌≤◌, ◌<◌, true, List, Option, length, map, All}
 use Rattle.std.specs.Option.{ForSome}
 use Rattle.rv_decode.specs.declared.ins.Isa.{Isa}
 use Rattle.probe_tools.specs.declared.tool.Tool.{Tool}
-use Rattle.manifest.specs.Names.{is_name, is_file_name}
+use Rattle.manifest.specs.Names.{is_name, is_file_name, are_distinct}
 
 -- a module: its name, the number of its file, and where it is to stand
 pub record ModuleEntry : Type 0 where
@@ -52,7 +52,7 @@ pub record IsGuest (g : GuestEntry) : Type 0 where
   pub stack_aligned : g.stack % 16 ≡ 0
   pub input : ForSome g.input (λ n. is_file_name n ≡ true)
 
--- what every manifest keeps
+-- what every manifest keeps; modules have names of their own
 pub record IsListing (files : List (List ℕ)) (modules : List ModuleEntry) (guests : List GuestEntry) : Type 0 where
   pub some_file : 1 ≤ length files
   pub few_files : length files ≤ 32
@@ -60,6 +60,7 @@ pub record IsListing (files : List (List ℕ)) (modules : List ModuleEntry) (gue
   pub few_modules : length modules ≤ 32
   pub some_guest : 1 ≤ length guests
   pub few_guests : length guests ≤ 64
+  pub own_names : are_distinct (map (λ m. m.name) modules) ≡ true
   pub files_spelled : All (λ n. is_file_name n ≡ true) files
   pub have_files : All (λ m. m.file < length files) modules
   pub have_modules : All (λ g. g.«module» < length modules) guests

@@ -14,11 +14,14 @@ pub struct NameTable {
 }
 
 impl Model for NameTable {
-    ghost use Rattle.std.specs.Prelude.{List, ℕ, map};
+    ghost use Rattle.std.specs.Prelude.{◌≡◌, List, ℕ, map, true};
+    ghost use Rattle.manifest.specs.Names.{are_distinct};
 
     ghost Value = { List (List ℕ) };
 
     ghost view = { λ t. map (λ n. n.items) t.names.keys };
+
+    ghost invariant = { λ t. are_distinct (map (λ n. n.items) t.names.keys) ≡ true };
 }
 
 impl NameTable {

@@ -8,15 +8,19 @@ use crate::is_listed;
 use fault_counts::raised;
 use std::alloc::{AllocError, AllocFailed, Global};
 use std::collections::BTreeMap;
+use thiserror::Error;
 
 /// Why a read gave no bytes.
-#[derive(Clone, Copy, Debug, PartialEq, Eq)]
+#[derive(Clone, Copy, Debug, PartialEq, Eq, Error)]
 pub enum FileErr {
     /// The content is longer than the limit.
+    #[error("long")]
     TooLong,
     /// There is no such file, or it could not be read.
+    #[error("unread")]
     Failed,
     /// Memory ran out.
+    #[error("memory")]
     Memory,
 }
 

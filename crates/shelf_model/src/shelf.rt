@@ -6,6 +6,7 @@ ghost use Rattle.shelf_model.specs.Shelf.{written, Torn, Elapses, Rests, Stands,
 ghost use Rattle.fault_counts.specs.Counts.{Rose};
 
 use std::alloc::{AllocError, AllocFailed};
+use thiserror::Error;
 
 /// One of the two areas of a name.
 #[derive(Clone, Copy, Debug, PartialEq, Eq)]
@@ -15,13 +16,16 @@ pub enum Area {
 }
 
 /// Why a call of a shelf did nothing, or not all.
-#[derive(Clone, Copy, Debug, PartialEq, Eq)]
+#[derive(Clone, Copy, Debug, PartialEq, Eq, Error)]
 pub enum ShelfErr {
     /// The content is longer than the limit.
+    #[error("long")]
     TooLong,
     /// The area could not be read, written or synced.
+    #[error("shelf")]
     Failed,
     /// Memory ran out. Nothing has changed.
+    #[error("memory")]
     Memory,
 }
 

@@ -14,14 +14,17 @@ use crate::recipe::Recipe;
 use elf_map::Elf;
 use manifest::{GuestRow, ModuleRow};
 use std::alloc::{AllocError, Global};
+use thiserror::Error;
 use unit_set::SlotName;
 
 /// Why the slots of a run are refused.
-#[derive(Clone, Copy, Debug, PartialEq, Eq)]
+#[derive(Clone, Copy, Debug, PartialEq, Eq, Error)]
 pub enum SlotsErr {
     /// There are so many, which is over 64.
+    #[error("slots {0}")]
     TooMany(u32),
     /// The host has no memory left.
+    #[error("memory")]
     Memory,
 }
 

@@ -9,18 +9,23 @@ use crate::fresh::first_stale;
 use crate::links::{addresses_in, first_bad};
 use fragment::Fragment;
 use std::alloc::{AllocError, Global};
+use thiserror::Error;
 use unit_set::{RawFrag, RawUnit, SlotName, Unit};
 
 /// Why a unit that was read is not admitted: the first cause from above.
-#[derive(Clone, Copy, Debug, PartialEq, Eq)]
+#[derive(Clone, Copy, Debug, PartialEq, Eq, Error)]
 pub enum AdmitErr {
     /// It is of another slot.
+    #[error("foreign")]
     Foreign,
     /// The fragment at this address is not the one built there.
+    #[error("notfresh {0:08X}")]
     NotFresh(u32),
     /// Of the fragment at this address, the link of this exit is not the defined one.
+    #[error("badlink {0:08X} {1}")]
     BadLink(u32, u8),
     /// The host has no memory left.
+    #[error("memory")]
     Memory,
 }
 
