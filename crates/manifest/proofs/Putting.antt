@@ -55,3 +55,9 @@ grown f rows before more row names longer name new named same fresh is said put 
     ∙ (λ i. named i ++ is i ∷ [])
     ∙ sym (map-append f rows (row ∷ []))
     ∙ ap (map f) (sym on)
+
+-- a name that is put into a table leaves its names distinct
+pub distinct_more : (names more : List (List ℕ)) (name : List ℕ) (new : Bool) → new ≡ not (is_among name names) → more ≡ cond new (names ++ name ∷ []) names
+    → are_distinct names ≡ true → are_distinct more ≡ true
+distinct_more names more name true said put distinct = ap are_distinct put ∙ stays names name (of_not true (is_among name names) said) distinct
+distinct_more names more name false said put distinct = ap are_distinct put ∙ distinct

@@ -6,7 +6,7 @@ use Rattle.toml.specs.Data.{Members, get_member}
 use Rattle.manifest.specs.declared.error.ManifestErr.{ManifestErr}
 use Rattle.manifest.specs.declared.path.Place.TheVariants as places
 use Rattle.manifest.specs.Entries.{ModuleEntry, GuestEntry, Listing, IsListing}
-use Rattle.manifest.specs.Names.{is_file_name}
+use Rattle.manifest.specs.Names.{are_distinct, is_file_name}
 use Rattle.manifest.specs.Keys.{Rule, first_failing, first_of, first_in, unknown_rules}
 use Rattle.manifest.specs.Manifest.{files_at, files_rules, modules_at, modules_rules, module_names, guests_at, guests_rules, manifest_rules, listing_of}
 use Rattle.manifest.proofs.Faults.{first_in-append}
@@ -59,8 +59,8 @@ listing_is t files modules guests a b c = cc
 -- what every manifest keeps
 pub is_listing : (files kept : List (List ℕ)) (modules : List ModuleEntry) (names : List (List ℕ)) (guests : List GuestEntry) → kept ≡ files → names ≡ module_names modules
     → 1 ≤ length files → length files ≤ 32 → All (λ n. is_file_name n ≡ true) files → 1 ≤ length modules → length modules ≤ 32 → All (λ m. m.file < length files) modules
-    → 1 ≤ length guests → length guests ≤ 64 → All (λ g. g.«module» < length names) guests → IsListing kept modules guests
-is_listing files kept modules names guests same named some_file few_files spelled some_module few_modules have_files some_guest few_guests have_modules =
+    → 1 ≤ length guests → length guests ≤ 64 → All (λ g. g.«module» < length names) guests → are_distinct (module_names modules) ≡ true → IsListing kept modules guests
+is_listing files kept modules names guests same named some_file few_files spelled some_module few_modules have_files some_guest few_guests have_modules apart =
     let count : length names ≡ length modules = ap length named ∙ length-map modules (λ m. m.name) in
     rw same (record {
       some_file = some_file;
@@ -69,6 +69,7 @@ is_listing files kept modules names guests same named some_file few_files spelle
       few_modules = few_modules;
       some_guest = some_guest;
       few_guests = few_guests;
+      own_names = apart;
       files_spelled = spelled;
       have_files = have_files;
       have_modules = subst (λ n. All (λ g. g.«module» < n) guests) count have_modules;

@@ -2,7 +2,7 @@ ghost use Rattle.std.specs.Prelude.{◌≡◌, ◌≤◌, ◌<◌, [], true, fal
 ghost use Rattle.toml.specs.Data.{get_member};
 ghost use Rattle.toml.specs.View.{items_view, table_view};
 ghost use Rattle.manifest.specs.declared.lists.ItemKind.TheVariants as kinds;
-ghost use Rattle.manifest.specs.Names.{is_among};
+ghost use Rattle.manifest.specs.Names.{are_distinct, is_among};
 ghost use Rattle.manifest.specs.Keys.{each_item, is_of, first_failing, first_in, path_of, choice_rules, chosen};
 ghost use Rattle.manifest.specs.Manifest.{Reads, module_of, module_names, module_rules, modules_rules, modules_at, rows_in, rules_each};
 
@@ -32,6 +32,7 @@ pub fn modules_in(alloc: Global, table: &Table, files: &NameTable) -> Result<Mod
     ensures few { IfOk result (λ m. length m.rows.items ≤ 32) }
     ensures files { IfOk result (λ m. All (λ row. row.file < length files.now) m.rows.items) }
     ensures named { IfOk result (λ m. m.names ≡ module_names m.rows.items) }
+    ensures apart { IfOk result (λ m. are_distinct (module_names m.rows.items) ≡ true) }
 {
     let items = list_at(alloc, table, "module", ItemKind::Table, 32)?;
     rows_of(alloc, items, files)
@@ -46,6 +47,7 @@ fn rows_of(alloc: Global, items: &[Value], files: &NameTable) -> Result<Modules,
     ensures length { IfOk result (λ m. length m.rows.items ≡ length items.now) }
     ensures files { IfOk result (λ m. All (λ row. row.file < length files.now) m.rows.items) }
     ensures named { IfOk result (λ m. m.names ≡ module_names m.rows.items) }
+    ensures apart { IfOk result (λ m. are_distinct (module_names m.rows.items) ≡ true) }
 {
     let mut rows = Vec::new(alloc);
     let mut names = NameTable::new(alloc);

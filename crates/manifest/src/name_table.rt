@@ -14,14 +14,11 @@ pub struct NameTable {
 }
 
 impl Model for NameTable {
-    ghost use Rattle.std.specs.Prelude.{◌≡◌, List, ℕ, map, true};
-    ghost use Rattle.manifest.specs.Names.{are_distinct};
+    ghost use Rattle.std.specs.Prelude.{List, ℕ, map};
 
     ghost Value = { List (List ℕ) };
 
     ghost view = { λ t. map (λ n. n.items) t.names.keys };
-
-    ghost invariant = { λ t. are_distinct (map (λ n. n.items) t.names.keys) ≡ true };
 }
 
 impl NameTable {

@@ -3,7 +3,7 @@ use Rattle.std.proofs.lemmas.Result.{err_from_is_err_and}
 use Rattle.toml.specs.View.{table_view}
 use Rattle.manifest.specs.Entries.{ModuleEntry}
 use Rattle.manifest.specs.Manifest.{module_of, module_rules}
-use Rattle.manifest.proofs.Putting.{grown}
+use Rattle.manifest.proofs.Putting.{distinct_more, grown}
 use Rattle.manifest.proofs.Walking.{goes_on, stops, ends}
 use Rattle.manifest.proofs.module.rows_of.Goals as goal
 
@@ -21,6 +21,7 @@ loop-value-preserved c = (
       c.deref.ensures.value c.loop-value.invariant.0 c.in_ok-row.ensures.reads.0 c.in_ok-row.ensures.reads.1 c.in_ok-row.ensures.file c.in_ok-push.ensures.items,
   grown (λ r. r.name) c.loop-value.rows.items c.deref.result.now c.push.new.self.items c.in_ok-row.row c.loop-value.names c.add.new.self c.items.result.now c.in_ok-add.field-0
       c.loop-value.invariant.1 c.deref.ensures.value c.in_ok-row.ensures.new (c.items.ensures ∙ ap (λ (r : ModuleEntry). r.name) c.row.view_is) c.in_ok-add.ensures.new c.in_ok-add.ensures.names c.in_ok-push.ensures.items,
+  distinct_more c.loop-value.names c.add.new.self c.items.result.now c.in_ok-add.field-0 c.in_ok-add.ensures.new c.in_ok-add.ensures.names c.loop-value.invariant.2,
 )
 
 pub returns-clause-reads : goal.returns-clause-reads

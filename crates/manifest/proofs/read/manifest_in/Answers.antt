@@ -27,7 +27,7 @@ pub invariant_of-result : goal.invariant_of-result
 invariant_of-result c =
     is_listing c.in_ok-files.files c.in_ok-to_names.field-0.items c.in_ok-modules.modules.rows.items c.in_ok-modules.modules.names c.in_ok-guests.guests.items
     c.in_ok-to_names.ensures c.in_ok-modules.ensures.named c.in_ok-files.ensures.some c.in_ok-files.ensures.few c.in_ok-files.ensures.spelled
-    c.in_ok-modules.ensures.some c.in_ok-modules.ensures.few c.in_ok-modules.ensures.files c.in_ok-guests.ensures.some c.in_ok-guests.ensures.few c.in_ok-guests.ensures.modules
+    c.in_ok-modules.ensures.some c.in_ok-modules.ensures.few c.in_ok-modules.ensures.files c.in_ok-guests.ensures.some c.in_ok-guests.ensures.few c.in_ok-guests.ensures.modules c.in_ok-modules.ensures.apart
 
 pub returns : goal.returns
 returns c =
