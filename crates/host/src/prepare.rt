@@ -19,7 +19,6 @@ use elf_map::{Elf, ElfErr};
 use host_text::Cause;
 use manifest::{GuestRow, Manifest, ManifestErr};
 use outside::Files;
-use slot_list::laws::modules_have_own_names;
 use slot_list::{SlotsErr, slots_of};
 use std::alloc::{AllocError, Global};
 use unit_set::SlotName;
@@ -53,7 +52,6 @@ pub fn prepare<'a, F: Files>(
     ensures refused { IfErr result (λ cause. cause ≢ Cause.Memory → Refuses words.now (source_of F.content F.faults files.old files.new) cause) }
     ensures words { order_of words.now ≡ None → result ≡ Err Cause.Words }
 {
-    modules_have_own_names();
     let Some(order) = order_of(words) else {
         return Err(Cause::Words);
     };

@@ -2,9 +2,9 @@ ghost use Rattle.std.specs.Prelude.{◌≡◌, ◌≤◌, ◌<◌, true, length,
 ghost use Rattle.std.specs.Str.{is_utf8};
 ghost use Rattle.toml.specs.Errors.{IsMemory};
 ghost use Rattle.toml.specs.View.{table_view};
-ghost use Rattle.manifest.specs.Names.{is_file_name};
+ghost use Rattle.manifest.specs.Names.{are_distinct, is_file_name};
 ghost use Rattle.manifest.specs.Keys.{first_in};
-ghost use Rattle.manifest.specs.Manifest.{Reads, Gives, manifest_of, manifest_rules, listing_of};
+ghost use Rattle.manifest.specs.Manifest.{Reads, Gives, manifest_of, manifest_rules, module_names, listing_of};
 
 use crate::error::ManifestErr;
 use crate::files::files_in;
@@ -70,6 +70,7 @@ impl Manifest {
         ensures some { 1 ≤ length result.now }
         ensures few { length result.now ≤ 32 }
         ensures files { All (λ m. m.file < length self.now.files) result.now }
+        ensures own_names { are_distinct (module_names result.now) ≡ true }
     {
         &self.modules
     }

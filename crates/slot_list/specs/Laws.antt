@@ -1,8 +1,8 @@
 -- What holds of the slots of a run.
-use Rattle.std.specs.Prelude.{◌≡◌, ℕ, ◌≤◌, List, length, map, Some, Ok, slice_get}
+use Rattle.std.specs.Prelude.{◌≡◌, ℕ, ◌≤◌, List, length, map, Some, slice_get}
 use Rattle.std.specs.List.{All, Contains}
-use Rattle.manifest.specs.Entries.{ModuleEntry, GuestEntry, Listing}
-use Rattle.manifest.specs.Manifest.{manifest_of, module_names}
+use Rattle.manifest.specs.Entries.{ModuleEntry, GuestEntry}
+use Rattle.manifest.specs.Manifest.{module_names}
 use Rattle.plain_machine.specs.Program.{Program}
 use Rattle.elf_map.specs.Program.{texts_of}
 use Rattle.unit_set.specs.Slot.{Slot, IsSlot, slot_text}
@@ -12,10 +12,6 @@ use Rattle.slot_list.specs.Slots.{most_segs, slots_of}
 -- nothing stands at two places
 abbrev pub AreDistinct : {A : Type 0} → List A → Type 0
 AreDistinct {A} xs = (i j : ℕ) (x : A) → slice_get xs i ≡ Some x → slice_get xs j ≡ Some x → i ≡ j
-
--- the modules of a manifest that is read have names of their own
-abbrev pub ModulesHaveOwnNames : Type 0
-ModulesHaveOwnNames = (bytes : List ℕ) (listing : Listing) → manifest_of bytes ≡ Ok listing → AreDistinct (module_names listing.modules)
 
 -- where modules have names of their own, the slots differ
 abbrev pub SlotsDiffer : Type 0

@@ -1,12 +1,16 @@
 //! What holds of the slots of a run, as contracts.
-ghost use Rattle.slot_list.specs.Laws.{ModulesHaveOwnNames, SlotsDiffer, SpellingsDiffer, RecipesAreListed, SegmentsAreNumbered};
+ghost use Rattle.manifest.specs.Manifest.{module_names};
+ghost use Rattle.slot_list.specs.Laws.{AreDistinct, SlotsDiffer, SpellingsDiffer, RecipesAreListed, SegmentsAreNumbered};
 
+use manifest::Manifest;
 use unit_set::laws::spellings_are_one;
 
-/// The modules of a manifest that is read have names of their own.
-pub fn modules_have_own_names()
-    ensures { ModulesHaveOwnNames }
-{}
+/// The modules of a manifest have names of their own.
+pub fn modules_have_own_names(manifest: &Manifest)
+    ensures { AreDistinct (module_names manifest.now.modules) }
+{
+    let _ = manifest.modules();
+}
 
 /// Where modules have names of their own, the slots of a run differ.
 pub fn slots_differ()

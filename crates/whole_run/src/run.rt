@@ -22,6 +22,7 @@ use manifest::{GuestRow, Manifest};
 use publisher::serve;
 use registry::Registry;
 use shelf_model::Shelf;
+use slot_list::laws::modules_have_own_names;
 use std::alloc::{AllocError, Global};
 use unit_set::SlotName;
 
@@ -40,12 +41,12 @@ pub fn run_whole<H: Shelf>(
     requires inputs { length inputs.now ≡ length manifest.now.guests }
     requires slots { slots.items ≡ slots_in_job (job_of manifest.now elfs.items inputs.now) }
     requires few { length slots.items ≤ 64 }
-    requires names { AreDistinct (module_names manifest.now.modules) }
     ensures whole { IfOk result (λ w. IsWhole (job_of manifest.now elfs.items inputs.now) (seen_of H.told H.faults shelf.old shelf.new) w) }
     // Whatever it answers.
     ensures areas { ChangesOnly (slots_in_job (job_of manifest.now elfs.items inputs.now)) (H.told shelf.old) (H.told shelf.new) }
     ensures never_falls { (n : List ℕ) → H.faults shelf.old n ≤ H.faults shelf.new n }
 {
+    modules_have_own_names(manifest);
     let Start {
         loads,
         mut standings,

@@ -152,5 +152,4 @@ returns-clause-ready g c =
       inputs = ap length inputs ∙ given_count listing.guests c.in_ok-contents.read.items;
       slots = few.0;
       few = subst (λ slots. length slots ≤ 64) (sym few.0) few.1;
-      names = c.modules_have_own_names.ensures text listing (listing_is (manifest_of text) listing (subst (λ t. listed (manifest_of t) ≡ Ok listing) c.items.ensures c.in_ok-manifest.ensures));
     }
