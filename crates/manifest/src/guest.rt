@@ -24,7 +24,8 @@ pub fn guests_in(
     modules: &NameTable,
 ) -> Result<Vec<GuestRow>, ManifestErr>
     requires { length modules.now ≤ 32 }
-    ensures reads { let v = get_member (codes "guest") (table_view table.now) in Reads (λ rows. rows.items) (first_in (guests_rules modules.now v)) (guests_at modules.now v) result }
+    ensures reads { let v = get_member (codes "guest") (table_view table.now) in
+        Reads (λ rows. rows.items) (first_in (guests_rules modules.now v)) (guests_at modules.now v) result }
     ensures some { IfOk result (λ rows. 1 ≤ length rows.items) }
     ensures few { IfOk result (λ rows. length rows.items ≤ 64) }
     ensures modules { IfOk result (λ rows. All (λ g. g.«module» < length modules.now) rows.items) }
@@ -42,7 +43,8 @@ fn rows_of(
     requires modules { length modules.now ≤ 32 }
     requires few { length items.now ≤ 64 }
     requires tables { each_item (is_of kinds.Table) (items_view items.now) ≡ true }
-    ensures reads { Reads (λ rows. rows.items) (first_in (rules_each (guest_of modules.now) (guest_rules modules.now) [] (items_view items.now))) (rows_in (guest_of modules.now) (items_view items.now)) result }
+    ensures reads { Reads (λ rows. rows.items) (first_in (rules_each (guest_of modules.now) (guest_rules modules.now) [] (items_view items.now)))
+        (rows_in (guest_of modules.now) (items_view items.now)) result }
     ensures length { IfOk result (λ rows. length rows.items ≡ length items.now) }
     ensures modules { IfOk result (λ rows. All (λ g. g.«module» < length modules.now) rows.items) }
 {
@@ -129,7 +131,8 @@ fn module_at(
     modules: &NameTable,
 ) -> Result<u32, ManifestErr>
     requires { length modules.now ≤ 32 }
-    ensures reads { let v = get_member (codes "module") (table_view table.now) in Reads (λ m. m) (first_failing (choice_rules modules.now (path_of place (codes "module")) v)) (chosen modules.now v) result }
+    ensures reads { let v = get_member (codes "module") (table_view table.now) in
+        Reads (λ m. m) (first_failing (choice_rules modules.now (path_of place (codes "module")) v)) (chosen modules.now v) result }
     ensures within { IfOk result (λ m. m < length modules.now) }
 {
     let text = text_at(alloc, table, place, "module")?;

@@ -27,7 +27,8 @@ pub struct Modules {
 /// The modules, in order.
 pub fn modules_in(alloc: Global, table: &Table, files: &NameTable) -> Result<Modules, ManifestErr>
     requires { length files.now ≤ 32 }
-    ensures reads { let v = get_member (codes "module") (table_view table.now) in Reads (λ m. m.rows.items) (first_in (modules_rules files.now v)) (modules_at files.now v) result }
+    ensures reads { let v = get_member (codes "module") (table_view table.now) in
+        Reads (λ m. m.rows.items) (first_in (modules_rules files.now v)) (modules_at files.now v) result }
     ensures some { IfOk result (λ m. 1 ≤ length m.rows.items) }
     ensures few { IfOk result (λ m. length m.rows.items ≤ 32) }
     ensures files { IfOk result (λ m. All (λ row. row.file < length files.now) m.rows.items) }
@@ -43,7 +44,8 @@ fn rows_of(alloc: Global, items: &[Value], files: &NameTable) -> Result<Modules,
     requires files { length files.now ≤ 32 }
     requires few { length items.now ≤ 32 }
     requires tables { each_item (is_of kinds.Table) (items_view items.now) ≡ true }
-    ensures reads { Reads (λ m. m.rows.items) (first_in (rules_each (module_of files.now) (module_rules files.now) [] (items_view items.now))) (rows_in (module_of files.now) (items_view items.now)) result }
+    ensures reads { Reads (λ m. m.rows.items) (first_in (rules_each (module_of files.now) (module_rules files.now) [] (items_view items.now)))
+        (rows_in (module_of files.now) (items_view items.now)) result }
     ensures length { IfOk result (λ m. length m.rows.items ≡ length items.now) }
     ensures files { IfOk result (λ m. All (λ row. row.file < length files.now) m.rows.items) }
     ensures named { IfOk result (λ m. m.names ≡ module_names m.rows.items) }
@@ -99,7 +101,8 @@ fn file_at(
     files: &NameTable,
 ) -> Result<u32, ManifestErr>
     requires { length files.now ≤ 32 }
-    ensures reads { let v = get_member (codes "file") (table_view table.now) in Reads (λ f. f) (first_failing (choice_rules files.now (path_of place (codes "file")) v)) (chosen files.now v) result }
+    ensures reads { let v = get_member (codes "file") (table_view table.now) in
+        Reads (λ f. f) (first_failing (choice_rules files.now (path_of place (codes "file")) v)) (chosen files.now v) result }
     ensures within { IfOk result (λ f. f < length files.now) }
 {
     let text = text_at(alloc, table, place, "file")?;

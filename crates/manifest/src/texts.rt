@@ -32,7 +32,8 @@ pub fn text_at<'a>(
     place: Place,
     key: &str,
 ) -> Result<&'a str, ManifestErr>
-    ensures { Reads (λ s. s.now) (first_failing (text_rules (path_of place key.now) (get_member key.now (table_view table.now)))) (text_at (get_member key.now (table_view table.now))) result }
+    ensures { Reads (λ s. s.now) (first_failing (text_rules (path_of place key.now) (get_member key.now (table_view table.now))))
+        (text_at (get_member key.now (table_view table.now))) result }
 {
     let Some(value) = value_at(table, key) else {
         return Err(ManifestErr::Missing(path(alloc, place, key)?));
@@ -51,7 +52,8 @@ pub fn new_name_at(
     place: Place,
     before: &NameTable,
 ) -> Result<Name, ManifestErr>
-    ensures reads { let v = get_member (codes "name") (table_view table.now) in Reads (λ n. n) (first_failing (name_rules before.now (path_of place (codes "name")) v)) (text_at v) result }
+    ensures reads { let v = get_member (codes "name") (table_view table.now) in
+        Reads (λ n. n) (first_failing (name_rules before.now (path_of place (codes "name")) v)) (text_at v) result }
     ensures spelled { IfOk result (λ n. is_name n ≡ true) }
     ensures new { IfOk result (λ n. is_among n before.now ≡ false) }
 {
@@ -94,7 +96,8 @@ fn isa_of(text: &str) -> Option<Isa>
 /// The tool at the key `tool`, or `blocks` where there is none.
 #[tactic(auto, unfolding(crate::specs::Keys::optional_rules))]
 pub fn tool_at(alloc: Global, table: &Table, place: Place) -> Result<Tool, ManifestErr>
-    ensures { Reads (λ t. t) (first_failing (tool_rules (path_of place (codes "tool")) (get_member (codes "tool") (table_view table.now)))) (meant tools.Blocks tool_of (get_member (codes "tool") (table_view table.now))) result }
+    ensures { Reads (λ t. t) (first_failing (tool_rules (path_of place (codes "tool")) (get_member (codes "tool") (table_view table.now))))
+        (meant tools.Blocks tool_of (get_member (codes "tool") (table_view table.now))) result }
 {
     let Some(value) = value_at(table, "tool") else {
         return Ok(Tool::Blocks);
@@ -111,7 +114,8 @@ pub fn tool_at(alloc: Global, table: &Table, place: Place) -> Result<Tool, Manif
 /// The instruction set at the key `isa`, or RV32I where there is none.
 #[tactic(auto, unfolding(crate::specs::Keys::optional_rules))]
 pub fn isa_at(alloc: Global, table: &Table, place: Place) -> Result<Isa, ManifestErr>
-    ensures { Reads (λ i. i) (first_failing (isa_rules (path_of place (codes "isa")) (get_member (codes "isa") (table_view table.now)))) (meant sets.I isa_of (get_member (codes "isa") (table_view table.now))) result }
+    ensures { Reads (λ i. i) (first_failing (isa_rules (path_of place (codes "isa")) (get_member (codes "isa") (table_view table.now))))
+        (meant sets.I isa_of (get_member (codes "isa") (table_view table.now))) result }
 {
     let Some(value) = value_at(table, "isa") else {
         return Ok(Isa::I);
@@ -128,7 +132,8 @@ pub fn isa_at(alloc: Global, table: &Table, place: Place) -> Result<Isa, Manifes
 /// The name of a file at the key `input`, if there is one.
 #[tactic(auto, unfolding(crate::specs::Keys::optional_rules))]
 pub fn input_at(alloc: Global, table: &Table, place: Place) -> Result<Option<Name>, ManifestErr>
-    ensures reads { Reads (λ n. n) (first_failing (input_rules (path_of place (codes "input")) (get_member (codes "input") (table_view table.now)))) (input_at (get_member (codes "input") (table_view table.now))) result }
+    ensures reads { Reads (λ n. n) (first_failing (input_rules (path_of place (codes "input")) (get_member (codes "input") (table_view table.now))))
+        (input_at (get_member (codes "input") (table_view table.now))) result }
     ensures spelled { IfOk result (λ input. ForSome input (λ n. is_file_name n ≡ true)) }
 {
     let Some(value) = value_at(table, "input") else {
