@@ -1,5 +1,6 @@
 -- What a whole run changes of its shelf, whatever it answers.
-use Rattle.std.proofs.Common.{◌≡◌, List, [], sym, fun_ext, subst}
+use Rattle.std.proofs.Common.{◌≡◌, List, [], subst}
+use Rattle.std.proofs.Math.Path.{fun_ext}
 use Rattle.shelf_model.specs.Shelf.{Told, TellsSame}
 use Rattle.unit_set.specs.Slot.{Slot}
 use Rattle.publisher.specs.Areas.{KeepsStrangers, OnlyPublishes}
