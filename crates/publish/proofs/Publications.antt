@@ -24,6 +24,7 @@ use Rattle.publish.specs.Gates.{Ends, Runs, published}
 use Rattle.publish.specs.Area.{Edition, body_of, which, seq_of, door_of, door_in, free, other, side}
 use Rattle.publish.specs.Verdict.{fine, held}
 use Rattle.publish.specs.Crash.{ForBoth, IsStanding, IsFit, Fits, Publishes, Publication, NowHolds, advanced, text_of}
+use Rattle.publish.specs.Rewriting.{Rewrites, free_door}
 use Rattle.publish.proofs.Bytes.{published_form}
 use Rattle.publish.proofs.Areas.{fine-published, kept_side, better_at, kept-better, better-new, which-new}
 use Rattle.publish.proofs.Crashes.{held_at, publishes_at, whole_holds, still_other, apart}
@@ -86,14 +87,18 @@ nothing_ends T WornOut e_is now door body found h = h
 nothing_ends T Memory e_is now door body found h = (0, h)
 nothing_ends T (ShelfFault k) e_is now door body found h = absurd (⊎_elim (λ x. grind (arith, x)) (λ x. grind (arith, x)) e_is)
 
+pub rewrites_nothing : (T : Type 0) (e : PubErr) → (e ≡ WornOut) ⊎ (e ≡ Memory) → (told : Told) (s : Standing) (u : Held) → Rewrites told told u s (failed {T = T} e)
+rewrites_nothing T e e_is told s u = record {
+  others = λ n b o. refl;
+  silent = λ h. h;
+  this = λ found h. nothing_ends T e e_is (told (slot_text u.slot) (free s.held)) _ _ found h;
+}
+
 pub publishes_nothing : (T : Type 0) (e : PubErr) → (e ≡ WornOut) ⊎ (e ≡ Memory) → (told : Told) (t : ℕ) (i : Images) (s : Standing) (u : Held) → Fits told i t u.slot s
     → Publication told told t t i i s s u (failed {T = T} e)
 publishes_nothing T e e_is told t i s u fits = record {
   passes = no_pass t i (slot_text u.slot) (free s.held);
-  silent = λ h. h;
   longer = λ found h. (found, h, omega arith);
-  others = λ n b o. refl;
-  told = λ a b ta tb la lb. nothing_ends T e e_is (told (slot_text u.slot) (free s.held)) _ _ _ (side_told (free s.held) told (slot_text u.slot) a b ta tb);
   crash = λ a b ta tb la lb.
       let fit = fits a b ta tb la lb in
       let same : (m : ℕ) (c d : List ℕ) → t ≤ m → m ≤ t → i m (slot_text u.slot) A c → i m (slot_text u.slot) B d → held u.slot c d ≡ held u.slot a b =
@@ -245,12 +250,7 @@ pub publication_broken : (T : Type 0) (e : PubErr) (told0 told1 : Told) (t0 t1 :
     → Publication told0 told1 t0 t1 i0 i1 s s u (failed {T = T} e)
 publication_broken T e told0 told1 t0 t1 i0 i1 s u range fits_text fits runs = record {
   passes = runs.passes;
-  silent = runs.silent;
   longer = runs.longer;
-  others = runs.others;
-  told = λ a b ta tb la lb.
-      let bef = before_of told0 i0 t0 u s a b ta tb la lb (fits a b ta tb la lb) in
-      err_ends T e (told1 (slot_text u.slot) (free s.held)) _ _ _ (runs.told (side (free s.held) a b) bef.tells bef.door);
   crash = crash_of T (failed e) (failed e) told0 told1 t0 t1 i0 i1 s u range fits_text fits runs (λ x tx door. tt) (λ k is. ap (λ z. failed z) (ap error_in is));
   now = tt;
   fits = tt;
@@ -272,19 +272,14 @@ publication_done told0 told1 t0 t1 i0 i1 s u range fits_text fits runs =
     let area = free s.held in
     let body = body_of (s.seq + 1) (text_of u) in
     let ends : (x : List ℕ) → told0 (slot_text u.slot) area ≡ Some x → side area s.a s.b ≡ door_of x → Leaves i1 t1 (slot_text u.slot) area (published body x) =
-    λ x tx door. runs.settled (published body x) (runs.told x tx door) in
+    λ x tx door. runs.settled (published body x) (runs.told x tx) in
     record {
       passes = runs.passes;
-      silent = runs.silent;
       longer = runs.longer;
-      others = runs.others;
-      told = λ a b ta tb la lb.
-          let bef = before_of told0 i0 t0 u s a b ta tb la lb (fits a b ta tb la lb) in
-          runs.told (side area a b) bef.tells bef.door;
       crash = crash_of ℕ (Ok 3) (Ok tt) told0 told1 t0 t1 i0 i1 s u range fits_text fits runs ends (λ k is. absurd (grind (arith, is)));
       now = λ a b ta tb la lb.
           let bef = before_of told0 i0 t0 u s a b ta tb la lb (fits a b ta tb la lb) in
-          now_at area told1 u (published body (side area a b)) (side area b a) (next (s.seq + 1) u) (runs.told (side area a b) bef.tells bef.door)
+          now_at area told1 u (published body (side area a b)) (side area b a) (next (s.seq + 1) u) (runs.told (side area a b) bef.tells)
           (runs.others (slot_text u.slot) (other area) (inr (apart area)) ∙ bef.tells_other) (small_published u (s.seq + 1) (side area a b) fits_text bef.small) (side_small area b a lb la)
           (whole_holds area u.slot (side area a b) (side area b a) body (published body (side area a b)) (next (s.seq + 1) u) (reads u (s.seq + 1) (side area a b) range fits_text bef.small) bef.greater refl);
       fits = λ a b ta tb la lb.
@@ -296,7 +291,7 @@ publication_done told0 told1 t0 t1 i0 i1 s u range fits_text fits runs =
           let e_after : after ≡ side area a b = same_Some after (side area a b) (sym is_after ∙ tx1) in
           let bef = before_at area told0 i0 t0 u s x (side area b a) refl tx0 ty0
           (omega (arith, le, ap (λ (z : List ℕ). length z) e_after, side_small area a b la lb)) (side_small area b a lb la) fits in
-          fit_at area told1 i1 t1 u s (s.seq + 1) (published body x) (side area b a) (runs.told x tx0 bef.door) ty1 (ends x tx0 bef.door)
+          fit_at area told1 i1 t1 u s (s.seq + 1) (published body x) (side area b a) (runs.told x tx0) ty1 (ends x tx0 bef.door)
           (λ d h. still_other t0 t1 i0 i1 u.slot area (side area b a) runs.passes (apart area) bef.leaves_other t1 d runs.passes.later (omega arith) h)
           (reads u (s.seq + 1) x range fits_text bef.small) bef.greater (door_published body x) bef.door_other a b ta tb la lb;
     }
@@ -314,6 +309,35 @@ runs_as told0 told1 t0 t1 i0 i1 s u name area door body r e_name e_area e_door e
     subst (λ z. Runs told0 told1 t0 t1 i0 i1 (slot_text u.slot) (free s.held) (side (free s.held) s.a s.b) z r) e_body
     (subst (λ z. Runs told0 told1 t0 t1 i0 i1 (slot_text u.slot) (free s.held) z body r) (e_door ∙ ap (λ z. side z s.a s.b) e_area)
     (subst (λ z. Runs told0 told1 t0 t1 i0 i1 (slot_text u.slot) z door body r) e_area (subst (λ z. Runs told0 told1 t0 t1 i0 i1 z area door body r) e_name runs)))
+
+-- what is left of the areas
+rewrites_by : (T : Type 0) (result : Result T PubErr) (r : Result (Unit {0}) PubErr) (told0 told1 : Told) (t0 t1 : ℕ) (i0 i1 : Images) (s : Standing) (u : Held)
+    → ((now : Option (List ℕ)) (door : Door) (body found : List ℕ) → Ends r now door body found → Ends result now door body found)
+    → Runs told0 told1 t0 t1 i0 i1 (slot_text u.slot) (free s.held) (free_door s) (body_of (s.seq + 1) (text_of u)) r → Rewrites told0 told1 u s result
+rewrites_by T result r told0 told1 t0 t1 i0 i1 s u ends runs = record {
+  others = runs.others;
+  silent = runs.silent;
+  this = λ found h. ends _ _ _ found (runs.told found h);
+}
+
+pub rewrite_refused : (result : Result ℕ PubErr) → result ≡ Err Memory → (told : Told) (s : Standing) (u : Held) → Rewrites told told u s result
+rewrite_refused result is told s u = subst (λ r. Rewrites told told u s r) (sym is) (rewrites_nothing ℕ Memory (inr refl) told s u)
+
+pub rewrite_worn : (told : Told) (s : Standing) (u : Held) → Rewrites {T = ℕ} told told u s (Err WornOut)
+rewrite_worn told s u = rewrites_nothing ℕ WornOut (inl refl) told s u
+
+pub rewrite_broke : (result : Result ℕ PubErr) (e : PubErr) → result ≡ Err e → (told0 told1 : Told) (t0 t1 : ℕ) (i0 i1 : Images) (s : Standing) (u : Held) (name : List ℕ) (area : Area) (door : Door) (body : List ℕ)
+    → name ≡ slot_text u.slot → area ≡ free s.held → door ≡ side area s.a s.b → body ≡ body_of (s.seq + 1) (text_of u)
+    → Runs told0 told1 t0 t1 i0 i1 name area door body (Err e) → Rewrites told0 told1 u s result
+rewrite_broke result e is told0 told1 t0 t1 i0 i1 s u name area door body e_name e_area e_door e_body runs =
+    subst (λ r. Rewrites told0 told1 u s r) (sym is)
+    (rewrites_by ℕ (Err e) (Err e) told0 told1 t0 t1 i0 i1 s u (λ now d b found h. err_ends ℕ e now d b found h) (runs_as told0 told1 t0 t1 i0 i1 s u name area door body (Err e) e_name e_area e_door e_body runs))
+
+pub rewrite_went : (told0 told1 : Told) (t0 t1 : ℕ) (i0 i1 : Images) (s : Standing) (u : Held) (name : List ℕ) (area : Area) (door : Door) (body : List ℕ)
+    → name ≡ slot_text u.slot → area ≡ free s.held → door ≡ side area s.a s.b → body ≡ body_of (s.seq + 1) (text_of u)
+    → Runs told0 told1 t0 t1 i0 i1 name area door body (Ok tt) → Rewrites {T = ℕ} told0 told1 u s (Ok 3)
+rewrite_went told0 told1 t0 t1 i0 i1 s u name area door body e_name e_area e_door e_body runs =
+    rewrites_by ℕ (Ok 3) (Ok tt) told0 told1 t0 t1 i0 i1 s u (λ now d b found h. h) (runs_as told0 told1 t0 t1 i0 i1 s u name area door body (Ok tt) e_name e_area e_door e_body runs)
 
 pub publish_refused : (result : Result ℕ PubErr) → result ≡ Err Memory → (told : Told) (t : ℕ) (i : Images) (s : Standing) (u : Held) → Fits told i t u.slot s
     → Publication told told t t i i s s u result

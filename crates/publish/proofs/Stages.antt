@@ -11,7 +11,7 @@ use Rattle.publish.specs.declared.area.Door.TheVariants.{Absent, Closed, Opened}
 use Rattle.publish.specs.declared.gates.PubErr.{PubErr}
 use Rattle.publish.specs.declared.gates.PubErr.TheVariants.{ShelfFault, WornOut, Memory}
 use Rattle.publish.specs.Area.{door_of}
-use Rattle.publish.specs.Gates.{IsEarly, IsLeft, closed_at, filled, published, left_by, Longer, Ends, Stage, Closes, Runs}
+use Rattle.publish.specs.Gates.{IsEarly, IsLeft, closed_at, filled, published, left_by, first_stage, Longer, Ends, Stage, Closes, Runs}
 use Rattle.publish.specs.Causes.{HasPubCause}
 use Rattle.publish.proofs.Bytes.{early_in_close, shut_in_fill, whole_in_open, opened_is_published}
 
@@ -97,6 +97,18 @@ ends_at (ShelfFault k) n faults0 faults1 name now door body found cause worn (af
 ends_at Memory n faults0 faults1 name now door body found cause worn left whole = whole refl
 ends_at WornOut n faults0 faults1 name now door body found cause worn left whole = absurd (worn refl)
 
+-- the first broke, where it calls the shelf
+ends_closing : (e : PubErr) (faults0 faults1 : List ℕ → ℕ) (name : List ℕ) (now : Option (List ℕ)) (door : Door) (body found : List ℕ)
+    → HasPubCause faults0 faults1 name (failed e) (first_stage door) 0 → (failed e ≡ Err WornOut → ⊥)
+    → (after : List ℕ) × (now ≡ Some after) × Torn 0 1 found after → (failed e ≡ Err Memory → (writes : ℕ) × (now ≡ Some (left_by writes door body found))) → Ends (failed e) now door body found
+ends_closing (ShelfFault k) faults0 faults1 name now door body found cause worn (after, is, torn) whole =
+    let place = cause.place k refl in
+    let same : 0 ≡ k = omega (arith, place.1) in
+    let calls : first_stage door ≡ 0 = omega (arith, place.0, place.1) in
+    (after, is, subst (λ x. IsLeft x door body found after) same (calls, torn))
+ends_closing Memory faults0 faults1 name now door body found cause worn left whole = whole refl
+ends_closing WornOut faults0 faults1 name now door body found cause worn left whole = absurd (worn refl)
+
 -- one of two
 either_by : (now : Option (List ℕ)) (door : Door) (body found x y : List ℕ) (n m : ℕ) → x ≡ left_by n door body found → y ≡ left_by m door body found → (now ≡ Some x) ⊎ (now ≡ Some y) → (writes : ℕ) × (now ≡ Some (left_by writes door body found))
 either_by now door body found x y n m ex ey (inl h) = (n, h ∙ ap Some ex)
@@ -104,14 +116,14 @@ either_by now door body found x y n m ex ey (inr h) = (m, h ∙ ap Some ey)
 
 -- CloseGate broke
 pub runs_closing : (e : PubErr) (told0 told1 : Told) (t0 t1 : ℕ) (i0 i1 : Images) (faults0 faults1 : List ℕ → ℕ) (name : List ℕ) (area : Area) (door : Door) (body : List ℕ)
-    → HasPubCause faults0 faults1 name (failed e) 0 0 → (failed e ≡ Err WornOut → ⊥)
+    → HasPubCause faults0 faults1 name (failed e) (first_stage door) 0 → (failed e ≡ Err WornOut → ⊥)
     → Closes told0 told1 t0 t1 i0 i1 name area door (Err e) → Runs told0 told1 t0 t1 i0 i1 name area door body (Err e)
 runs_closing e told0 told1 t0 t1 i0 i1 faults0 faults1 name area door body cause worn s = record {
   passes = s.passes;
   silent = s.silent;
   longer = s.longer;
   others = s.others;
-  told = λ found h is. ends_at e 0 faults0 faults1 name (told1 name area) door body found cause worn (s.broken found h) (λ m. either_by (told1 name area) door body found found (closed_at door found) 0 1 refl refl (s.memory m found h));
+  told = λ found h. ends_closing e faults0 faults1 name (told1 name area) door body found cause worn (s.broken found h) (λ m. either_by (told1 name area) door body found found (closed_at door found) 0 1 refl refl (s.memory m found h));
   settled = tt;
   crash = λ found h is leaves. record {
     opened = t1;
@@ -140,7 +152,7 @@ runs_filling e told0 told1 told2 t0 t1 t2 i0 i1 i2 faults1 faults2 name area doo
   silent = λ h. f.stores.silent (s.silent h);
   longer = then_longer told0 told1 told2 name area s.longer (stores_longer (failed e) told1 told2 t1 t2 i1 i2 name area 1 body f.stores);
   others = λ n b o. f.stores.others n b o ∙ s.others n b o;
-  told = λ found h is. ends_at e 1 faults1 faults2 name (told2 name area) door body found cause worn (f.stores.broken (closed_at door found) (s.ok found h))
+  told = λ found h. ends_at e 1 faults1 faults2 name (told2 name area) door body found cause worn (f.stores.broken (closed_at door found) (s.ok found h))
       (λ m. either_by (told2 name area) door body found (closed_at door found) (filled door body found) 1 2 refl refl (f.memory m (closed_at door found) (s.ok found h)));
   settled = tt;
   crash = λ found h is leaves.
@@ -156,15 +168,15 @@ runs_filling e told0 told1 told2 t0 t1 t2 i0 i1 i2 faults1 faults2 name area doo
       };
 }
 
-ends_opening : (r : Result (Unit {0}) PubErr) (faults2 faults3 : List ℕ → ℕ) (told2 told3 : Told) (t2 t3 : ℕ) (i2 i3 : Images) (name : List ℕ) (area : Area) (door : Door) (body found : List ℕ) → door ≡ door_of found
+ends_opening : (r : Result (Unit {0}) PubErr) (faults2 faults3 : List ℕ → ℕ) (told2 told3 : Told) (t2 t3 : ℕ) (i2 i3 : Images) (name : List ℕ) (area : Area) (door : Door) (body found : List ℕ)
     → HasPubCause faults2 faults3 name r 2 2 → (r ≡ Err WornOut → ⊥) → told2 name area ≡ Some (filled door body found)
     → Stage told2 told3 t2 t3 i2 i3 name area 0 (165 ∷ []) r → Ends r (told3 name area) door body found
-ends_opening (Ok u) faults2 faults3 told2 told3 t2 t3 i2 i3 name area door body found is cause worn h o =
-    o.stores.ok (filled door body found) h ∙ ap Some (ap (λ x. written 0 (165 ∷ []) (filled x body found)) is ∙ opened_is_published found body)
-ends_opening (Err e) faults2 faults3 told2 told3 t2 t3 i2 i3 name area door body found is cause worn h o =
+ends_opening (Ok u) faults2 faults3 told2 told3 t2 t3 i2 i3 name area door body found cause worn h o =
+    o.stores.ok (filled door body found) h ∙ ap Some (opened_is_published door found body)
+ends_opening (Err e) faults2 faults3 told2 told3 t2 t3 i2 i3 name area door body found cause worn h o =
     ends_at e 2 faults2 faults3 name (told3 name area) door body found cause worn (o.stores.broken (filled door body found) h)
     (λ m. either_by (told3 name area) door body found (filled door body found) (written 0 (165 ∷ []) (filled door body found)) 2 3 refl
-    (ap (λ x. written 0 (165 ∷ []) (filled x body found)) is ∙ opened_is_published found body) (o.memory m (filled door body found) h))
+    (opened_is_published door found body) (o.memory m (filled door body found) h))
 
 -- OpenGate, however it ends
 pub runs_opening : (r : Result (Unit {0}) PubErr) (told0 told1 told2 told3 : Told) (t0 t1 t2 t3 : ℕ) (i0 i1 i2 i3 : Images) (faults2 faults3 : List ℕ → ℕ) (name : List ℕ) (area : Area) (door : Door) (body : List ℕ)
@@ -182,7 +194,7 @@ runs_opening r told0 told1 told2 told3 t0 t1 t2 t3 i0 i1 i2 i3 faults2 faults3 n
       longer = then_longer told0 told2 told3 name area (then_longer told0 told1 told2 name area s.longer (stores_longer {E = PubErr} (Ok tt) told1 told2 t1 t2 i1 i2 name area 1 body f.stores))
           (stores_longer r told2 told3 t2 t3 i2 i3 name area 0 (165 ∷ []) o.stores);
       others = λ n b other. o.stores.others n b other ∙ (f.stores.others n b other ∙ s.others n b other);
-      told = λ found h is. ends_opening r faults2 faults3 told2 told3 t2 t3 i2 i3 name area door body found is cause worn (now_filled found h) o;
+      told = λ found h. ends_opening r faults2 faults3 told2 told3 t2 t3 i2 i3 name area door body found cause worn (now_filled found h) o;
       settled = o.stores.settled;
       crash = λ found h is leaves.
           let early = early_fill t0 t1 t2 i0 i1 i2 name area door body found is (s.early found h is leaves) (s.settled found h leaves) f.stores.time in
@@ -206,7 +218,7 @@ came (Ok u) e h = absurd h.1
 came (Err x) e h = ap Err h.1
 
 pub runs_closed : (r : Result (Unit {0}) PubErr) (e : PubErr) → r ≡ Err e → (told0 told1 : Told) (t0 t1 : ℕ) (i0 i1 : Images) (faults0 faults1 : List ℕ → ℕ) (name : List ℕ) (area : Area) (door : Door) (body : List ℕ)
-    → HasPubCause faults0 faults1 name (failed e) 0 0 → (failed e ≡ Err WornOut → ⊥)
+    → HasPubCause faults0 faults1 name (failed e) (first_stage door) 0 → (failed e ≡ Err WornOut → ⊥)
     → Closes told0 told1 t0 t1 i0 i1 name area door (Err e) → Runs told0 told1 t0 t1 i0 i1 name area door body r
 runs_closed r e is told0 told1 t0 t1 i0 i1 faults0 faults1 name area door body cause worn s =
     subst (λ x. Runs told0 told1 t0 t1 i0 i1 name area door body x) (sym is) (runs_closing e told0 told1 t0 t1 i0 i1 faults0 faults1 name area door body cause worn s)

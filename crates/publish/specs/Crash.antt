@@ -1,15 +1,15 @@
 -- What a slot's two areas hold after a crash, at each moment.
-use Rattle.std.specs.Prelude.{◌≡◌, ◌⊎◌, ℕ, ◌+◌, ◌<◌, ◌≤◌, List, length, Option, Some, None, Result, Err, OnOk}
+use Rattle.std.specs.Prelude.{◌≡◌, ◌⊎◌, ℕ, ◌+◌, ◌<◌, ◌≤◌, List, length, Option, Some, Result, Err, OnOk}
 use Rattle.shelf_model.specs.declared.shelf.Area.{Area}
 use Rattle.shelf_model.specs.declared.shelf.Area.TheVariants.{A, B}
-use Rattle.shelf_model.specs.Shelf.{Told, Images, Leaves, Passes, TellsOthers}
+use Rattle.shelf_model.specs.Shelf.{Told, Images, Leaves, Passes}
 use Rattle.publish.specs.declared.area.Standing.{Standing}
 use Rattle.publish.specs.declared.area.Door.TheVariants.{Opened}
 use Rattle.publish.specs.declared.gates.PubErr.{PubErr}
 use Rattle.publish.specs.declared.gates.PubErr.TheVariants.{ShelfFault}
-use Rattle.publish.specs.Area.{Edition, which, seq_of, door_in, free, side, body_of}
+use Rattle.publish.specs.Area.{Edition, which, seq_of, door_in, free}
 use Rattle.publish.specs.Verdict.{fine, held}
-use Rattle.publish.specs.Gates.{Ends, Longer}
+use Rattle.publish.specs.Gates.{Longer}
 use Rattle.unit_set.specs.Slot.{Slot, slot_text}
 use Rattle.unit_set.specs.Held.{Held}
 use Rattle.unit_format.specs.declared.header.Version.TheVariants.{Two}
@@ -81,16 +81,12 @@ text_of u = text Two (raw_of u)
 abbrev pub as_next : ℕ → Held → Option Edition
 as_next seq unit = Some (record { seq = seq; unit = unit })
 
--- what a call of `publish` did
+-- What a call of `publish` did, besides what it left of the areas.
 pub record Publication {T : Type 0} (told0 told1 : Told) (t0 t1 : ℕ) (i0 i1 : Images) (s0 s1 : Standing) (unit : Held) (result : Result T PubErr) : Type 0 where
   -- just one area of the slot is written: the one that is not held
   pub passes : Passes t0 t1 i0 i1 (slot_text unit.slot) (free s0.held)
-  pub others : TellsOthers told0 told1 (slot_text unit.slot) (free s0.held)
-  -- what is not told stays so, and no area gets shorter
-  pub silent : told0 (slot_text unit.slot) (free s0.held) ≡ None → told1 (slot_text unit.slot) (free s0.held) ≡ None
+  -- no area gets shorter
   pub longer : Longer told0 told1 (slot_text unit.slot) (free s0.held)
-  -- its bytes, by the answer
-  pub told : ForBoth told0 unit.slot (λ a b. Ends result (told1 (slot_text unit.slot) (free s0.held)) (side (free s0.held) s0.a s0.b) (body_of (s0.seq + 1) (text_of unit)) (side (free s0.held) a b))
   -- at each moment of the call
   pub crash : ForBoth told0 unit.slot (λ a b. Publishes i1 t0 t1 unit.slot (held unit.slot a b) (as_next (s0.seq + 1) unit) result)
   -- and after it

@@ -12,6 +12,12 @@ use Rattle.publish.specs.Area.{door_of}
 abbrev pub IsShut : List ℕ → Type 0
 IsShut bytes = (length bytes < 13) ⊎ (slice_index bytes 0 ≢ 165)
 
+-- the first stage that calls the shelf: a gate that stood closed is not written again, and CloseGate counts as finished
+abbrev pub first_stage : Door → ℕ
+first_stage Absent = 0
+first_stage Closed = 1
+first_stage Opened = 0
+
 -- after CloseGate: a gate that stood closed is left as it is
 abbrev pub closed_at : Door → List ℕ → List ℕ
 closed_at Absent found = written 0 (0 ∷ []) found
@@ -28,7 +34,7 @@ published body found = written 0 (165 ∷ body) found
 
 -- as the finished stages left it, but for the range of the next one that calls the shelf
 abbrev pub IsLeft : ℕ → Door → List ℕ → List ℕ → List ℕ → Type 0
-IsLeft zero door body found after = Torn 0 1 found after
+IsLeft zero door body found after = (first_stage door ≡ 0) × Torn 0 1 found after
 IsLeft (suc zero) door body found after = Torn 1 (length body) (closed_at door found) after
 IsLeft (suc (suc n)) door body found after = Torn 0 1 (filled door body found) after
 
@@ -88,6 +94,6 @@ pub record Runs (told0 told1 : Told) (t0 t1 : ℕ) (i0 i1 : Images) (name : List
   pub silent : told0 name area ≡ None → told1 name area ≡ None
   pub longer : Longer told0 told1 name area
   pub others : TellsOthers told0 told1 name area
-  pub told : WhereTold (told0 name area) (λ found. door ≡ door_of found → Ends result (told1 name area) door body found)
+  pub told : WhereTold (told0 name area) (Ends result (told1 name area) door body)
   pub settled : OnOk result (WhereTold (told1 name area) (Leaves i1 t1 name area))
   pub crash : WhereTold (told0 name area) (λ found. door ≡ door_of found → Leaves i0 t0 name area found → Stages i1 t0 t1 name area found body result)

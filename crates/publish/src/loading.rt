@@ -13,6 +13,7 @@ ghost use Rattle.publish.specs.Looking.{verdict_in, edition_in, IsRawReading, Is
 use crate::area::{Door, Reading, Standing, Verdict, is_slot};
 use shelf_model::{Area, Shelf, ShelfErr};
 use std::alloc::{AllocError, Global};
+use thiserror::Error;
 use unit_check::{AdmitErr, admit};
 use unit_format::{TextErr, read_unit};
 use unit_set::{RawUnit, SlotName, Unit};
@@ -20,11 +21,13 @@ use unit_set::{RawUnit, SlotName, Unit};
 const LIMIT: u32 = 4_194_304;
 
 /// Why a slot was not loaded.
-#[derive(Clone, Copy, Debug, PartialEq, Eq)]
+#[derive(Clone, Copy, Debug, PartialEq, Eq, Error)]
 pub enum LoadErr {
     /// The shelf failed.
+    #[error("unread")]
     Unread,
     /// The host has no memory left.
+    #[error("memory")]
     Memory,
 }
 

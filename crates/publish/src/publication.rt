@@ -1,9 +1,10 @@
 // A unit is published.
 ghost use Rattle.std.specs.Prelude.{◌≡◌, ◌↔◌, ◌+◌, ◌-◌, ◌^◌, IfOk, OnOk, OnErr, Err};
 ghost use Rattle.unit_set.specs.Slot.{slot_text};
-ghost use Rattle.publish.specs.Area.{free};
 ghost use Rattle.publish.specs.Causes.{HasPubCause};
-ghost use Rattle.publish.specs.Crash.{Fits, Publication, advanced};
+ghost use Rattle.publish.specs.Crash.{Fits, Publication};
+ghost use Rattle.publish.specs.Gates.{first_stage};
+ghost use Rattle.publish.specs.Rewriting.{Rewrites, free_door, standing_by};
 
 use crate::area::{Standing, body, free_area};
 use crate::gates::{PubErr, run_stages};
@@ -20,14 +21,16 @@ pub fn publish<H: Shelf>(
     standing: &mut Standing,
 ) -> Result<u8, PubErr>
     requires { Fits (H.told shelf.old) (H.images shelf.old) (H.moment shelf.old) unit.now.slot standing.old }
-    ensures publication { Publication (H.told shelf.old) (H.told shelf.new) (H.moment shelf.old) (H.moment shelf.new) (H.images shelf.old) (H.images shelf.new) standing.old standing.new unit.now result }
+    ensures areas { Rewrites (H.told shelf.old) (H.told shelf.new) unit.now standing.old result }
+    ensures publication { Publication (H.told shelf.old) (H.told shelf.new) (H.moment shelf.old) (H.moment shelf.new) (H.images shelf.old) (H.images shelf.new)
+        standing.old standing.new unit.now result }
     ensures stages { IfOk result (λ n. n ≡ 3) }
     ensures seq { OnOk result (standing.new.seq ≡ standing.old.seq + 1) }
-    ensures standing { OnOk result (standing.new ≡ advanced (free standing.old.held) (standing.old.seq + 1) standing.old) }
+    ensures standing { standing.new ≡ standing_by result standing.old }
     ensures kept { OnErr result (standing.new ≡ standing.old) }
     ensures worn { (result ≡ Err PubErr.WornOut) ↔ (standing.old.seq ≡ 2 ^ 64 - 1) }
     ensures uncalled { result ≡ Err PubErr.WornOut → shelf.new ≡ shelf.old }
-    ensures cause { HasPubCause (H.faults shelf.old) (H.faults shelf.new) (slot_text unit.now.slot) result 0 2 }
+    ensures cause { HasPubCause (H.faults shelf.old) (H.faults shelf.new) (slot_text unit.now.slot) result (first_stage (free_door standing.old)) 2 }
 {
     if standing.seq == u64::MAX {
         return Err(PubErr::WornOut);
