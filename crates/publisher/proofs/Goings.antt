@@ -21,6 +21,7 @@ use Rattle.publish.specs.Area.{Edition, free, seq_of}
 use Rattle.publish.specs.Verdict.{held}
 use Rattle.publish.specs.Crash.{Fits, ForBoth, Publication, as_next}
 use Rattle.publish.specs.History.{Follows}
+use Rattle.publish.specs.Rewriting.{standing_by}
 use Rattle.publish.proofs.Histories.{follows_other, follows_rest, follows_start}
 use Rattle.registry.specs.declared.entry.Entry.{Entry}
 use Rattle.registry.specs.declared.entry.Entry.TheVariants.{Due, Acked, Failed}
@@ -33,8 +34,10 @@ use Rattle.publisher.specs.Loads.{NoneFalls, blank}
 use Rattle.publisher.specs.Serving.{AreDistinct, Answers, IsCaused, dues, last_seq, seq_at, seqs_after, seqs_all, seqs_of, standing_at}
 use Rattle.publisher.specs.Folder.{HoldsBehind, IsApart, IsSound, KeepsOthers, Survives, acks}
 use Rattle.publisher.specs.Leg.{IsServed, Tells, Wrote, answer_to}
+use Rattle.publisher.specs.Areas.{AreHanded, AreRewritten, Attempt, IsHanded, OnlyPublishes, Rewriting, all_entries, all_standings}
 use Rattle.publisher.specs.Going.{Ends, Going, Lasts, Slotted}
 use Rattle.publisher.proofs.Entries.{Pair, added_is, all-append, all_left, all_right, all_wider, answer_theirs, due_open, grew, journal_both, journal_none, pair_fewer, pair_journal, pair_other, pair_replied, pair_shut, publishes-snoc, replied_both, same_opening, seqs-append, state_more}
+use Rattle.publisher.proofs.Rewritings.{answer_is, areas_more, entries-append, handed_more, of_slots, standings-append, strangers_kept, told_more}
 use Rattle.publisher.proofs.Slots.{Keeps, Publishing, behind_seq, fit_seq, fits_kept, folder_kept, keeps_other, keeps_still, lasts_acked, lasts_kept, folder_of, publishing, survives_broke, survives_kept}
 
 -- ---- standings
@@ -202,7 +205,7 @@ module _ (o : Opening) (now new : History) (told1 told2 : Told) (t1 t2 : ℕ) (i
   step_keeps : (slot : ℕ) (u : units.Held) (outcome : Result ℕ PubErr) (name : List ℕ) → u.slot ≡ slot_at o slot → name ≢ slot_text (slot_at o slot) → Wrote told1 told2 t1 t2 i1 i2 f1 f2 st1 st2 slot u outcome
       → Keeps told1 told2 t1 t2 i1 i2 name
   step_keeps slot u outcome name named differs w =
-      keeps_other told1 told2 t1 t2 i1 i2 name (slot_text u.slot) (free (standing_at st1 slot).held) (λ e. differs (e ∙ ap slot_text named)) w.publication.others w.publication.passes
+      keeps_other told1 told2 t1 t2 i1 i2 name (slot_text u.slot) (free (standing_at st1 slot).held) (λ e. differs (e ∙ ap slot_text named)) w.areas.others w.publication.passes
 
   step_follows : (slot k : ℕ) (u : units.Held) (outcome : Result ℕ PubErr) (t0 : ℕ) (all : List (Option Edition)) → t0 ≤ t1 → u.slot ≡ slot_at o slot → slot_text (slot_at o k) ≢ slot_text (slot_at o slot)
       → Wrote told1 told2 t1 t2 i1 i2 f1 f2 st1 st2 slot u outcome → Follows i1 t0 t1 (slot_at o k) all → Follows i2 t0 t2 (slot_at o k) all
@@ -287,6 +290,9 @@ going_start h st told t i f standings fits = record {
   counts = λ n. omega arith;
   caused = tt;
   others = λ name area all. refl;
+  rewriting = record { all = []; entries_are = refl; handed = tt; areas = λ n b. refl };
+  behind = refl;
+  told_as = tt;
   later = omega arith;
   slots = λ k within. record {
     fits = fits k within;
@@ -319,6 +325,25 @@ going_start h st told t i f standings fits = record {
   };
 }
 
+-- the standings behind one publication more
+behind_more : (st0 st1 st2 : List Standing) (xs : List Attempt) (x : Attempt) → st1 ≡ all_standings xs st0 → st2 ≡ set st1 x.slot (standing_at st2 x.slot) → standing_at st2 x.slot ≡ standing_by x.outcome x.standing
+    → st2 ≡ all_standings (xs ++ x ∷ []) st0
+behind_more st0 st1 st2 xs x before is here =
+    is ∙ (ap (λ (s : Standing). set st1 x.slot s) here ∙ (ap (λ (st : List Standing). set st x.slot (standing_by x.outcome x.standing)) before ∙ sym (standings-append xs x st0)))
+
+-- what is due behind the publications so far
+module _ {st0 : List Standing} {told0 told1 : Told} {t0 t1 : ℕ} {i1 : Images} {f0 f1 : List ℕ → ℕ} {served : List Pub} where
+  handed_behind : (old now : History) (st1 : List Standing) (g : Going old now st0 st1 told0 told1 t0 t1 i1 f0 f1 served) (x : Attempt) → x.slot < length old.opening.slots → x.unit.slot ≡ slot_at old.opening x.slot
+      → content_of x.unit ≡ unit_for old.opening (state_of now) (Due x.slot x.age x.version) → x.standing ≡ standing_at st1 x.slot
+      → IsHanded old.opening (after_all old.opening (state_of old) (all_entries g.rewriting.all)) (all_standings g.rewriting.all st0) x
+  handed_behind old now st1 g x there named handed standing = record {
+    there = there;
+    named = named;
+    unit = subst (λ s. content_of x.unit ≡ unit_for old.opening s (Due x.slot x.age x.version))
+        (state_more old now g.more g.journal ∙ ap (λ (es : List Entry). after_all old.opening (state_of old) es) g.rewriting.entries_are) handed;
+    standing = standing ∙ ap (λ (st : List Standing). standing_at st x.slot) g.behind;
+  }
+
 pub going_step : (old now new : History) (st0 st1 st2 : List Standing) (told0 told1 told2 : Told) (t0 t1 t2 : ℕ) (i1 i2 : Images) (f0 f1 f2 : List ℕ → ℕ) (served : List Pub) (p : Pub) → AreDistinct old.opening
     → Going old now st0 st1 told0 told1 t0 t1 i1 f0 f1 served → Step old.opening now new told1 told2 t1 t2 i1 i2 f1 f2 st1 st2 p → Going old new st0 st2 told0 told2 t0 t2 i2 f0 f2 (served ++ p ∷ [])
 going_step old now new st0 st1 st2 told0 told1 told2 t0 t1 t2 i1 i2 f0 f1 f2 served p distinct g step =
@@ -329,6 +354,7 @@ going_step old now new st0 st1 st2 told0 told1 told2 t0 t1 t2 i1 i2 f0 f1 f2 ser
     let leg : List Entry = Due p.slot p.age p.version ∷ answer_to p.fault p ∷ [] in
     let pair_is = pair_journal now new (Due p.slot p.age p.version) (answer_to p.fault p) step.pair in
     let answers = answers_by n step.outcome p step.tells w.stages (λ k is. (w.cause.place k is).1) w.worn.0 w.worn.1 step.seq_fits in
+    let x : Attempt = record { slot = p.slot; age = p.age; version = p.version; unit = step.unit; standing = standing_at st1 p.slot; outcome = step.outcome } in
     let number : n ≡ seq_at (seqs_all g.more (seqs_of st0)) p.slot = seq_get st1 p.slot within ∙ ap (λ (ns : List ℕ). seq_at ns p.slot) g.seqs in
     record {
       more = g.more ++ leg;
@@ -341,7 +367,17 @@ going_step old now new st0 st1 st2 told0 told1 told2 t0 t1 t2 i1 i2 f0 f1 f2 ser
       counts = none_falls f0 f1 f2 g.counts w.cause.later;
       caused = all-append _ served (p ∷ []) (all_wider _ _ served (λ x (c : IsCaused o f0 f1 x). caused_wider o f0 f1 f2 x w.cause.later g.counts c) g.caused)
           (caused_here, tt);
-      others = others_more o g.more (answer_to p.fault p ∷ []) p.slot p.age p.version told0 told1 told2 step.unit (free (standing_at st1 p.slot).held) step.named g.others w.publication.others;
+      others = others_more o g.more (answer_to p.fault p ∷ []) p.slot p.age p.version told0 told1 told2 step.unit (free (standing_at st1 p.slot).held) step.named g.others w.areas.others;
+      rewriting = record {
+        all = g.rewriting.all ++ x ∷ [];
+        entries_are = ap (λ (es : List Entry). es ++ leg) g.rewriting.entries_are
+            ∙ (ap (λ (es : List Entry). all_entries g.rewriting.all ++ (Due p.slot p.age p.version ∷ es)) (sym (answer_is n step.outcome p step.tells)) ∙ sym (entries-append g.rewriting.all x));
+        handed = handed_more o (state_of old) st0 g.rewriting.all x g.rewriting.handed
+            (handed_behind old now st1 g x step.within step.named step.handed refl);
+        areas = areas_more g.rewriting.all x told0 told1 told2 g.rewriting.areas w.areas;
+      };
+      behind = behind_more st0 st1 st2 g.rewriting.all x g.behind w.standings w.behind;
+      told_as = told_more g.rewriting.all served x p g.told_as (record { slot = refl; age = refl; version = refl; tells = step.tells });
       later = omega (arith, g.later, w.publication.passes.later);
       slots = λ k there. slot_step o now new told1 told2 t1 t2 i1 i2 f1 f2 st1 st2 p (state_of old) g.more served told0 t0 (slot_of (state_of old) k).shut k g.later distinct there
           (sym (state_more old now g.more g.journal)) step (g.slots k there);
@@ -356,16 +392,30 @@ going_step old now new st0 st1 st2 told0 told1 told2 t0 t1 t2 i1 i2 f0 f1 f2 ser
 -- ---- the end
 
 pub going_ends : (old new : History) (st0 st1 : List Standing) (told0 told1 : Told) (t0 t1 : ℕ) (i1 : Images) (f0 f1 : List ℕ → ℕ) (served : List Pub) → Going old new st0 st1 told0 told1 t0 t1 i1 f0 f1 served
-    → Ends old new told0 told1 t0 t1 i1 f0 f1
+    → Ends old new st0 told0 told1 t0 t1 i1 f0 f1
 going_ends old new st0 st1 told0 told1 t0 t1 i1 f0 f1 served g =
     let e = sym (added_is old new g.more g.journal) in
+    let only : OnlyPublishes old.opening.slots told0 told1 = record {
+      all = g.rewriting.all;
+      theirs = of_slots old.opening (state_of old) st0 g.rewriting.all g.rewriting.handed;
+      areas = g.rewriting.areas;
+    } in
     record {
       grew = grew old new g.more g.journal g.replied g.theirs;
       counts = g.counts;
       others = subst (λ es. KeepsOthers old.opening es told0 told1) e g.others;
+      rewriting = subst (λ es. Rewriting old.opening (state_of old) es st0 told0 told1) e g.rewriting;
+      only = only;
+      strangers = strangers_kept old.opening.slots told0 told1 only;
       survives = λ k within opened a b ta tb la lb.
           subst (λ es. Survives i1 t0 t1 old.opening (state_of old) k es (held (slot_at old.opening k) a b)) e ((g.slots k within).lasts opened a b ta tb la lb).survives;
     }
+
+-- also where nothing more was done
+pub going_rests : (old now new : History) (st0 st1 : List Standing) (told0 told1 : Told) (t0 t1 : ℕ) (i1 : Images) (f0 f1 : List ℕ → ℕ) (served : List Pub) → new ≡ now → Going old now st0 st1 told0 told1 t0 t1 i1 f0 f1 served
+    → Ends old new st0 told0 told1 t0 t1 i1 f0 f1
+going_rests old now new st0 st1 told0 told1 t0 t1 i1 f0 f1 served same g =
+    subst (λ (h : History). Ends old h st0 told0 told1 t0 t1 i1 f0 f1) (sym same) (going_ends old now st0 st1 told0 told1 t0 t1 i1 f0 f1 served g)
 
 blank_pub : Pub
 blank_pub = record { slot = 0; age = 0; version = 0; seq = 0; stages = 0; fault = None }
@@ -373,7 +423,7 @@ blank_pub = record { slot = 0; age = 0; version = 0; seq = 0; stages = 0; fault 
 -- a Due entry that is not answered, as memory ran out
 pub stopped_ends : (old now mid : History) (st0 st1 st2 : List Standing) (told0 told1 told2 : Told) (t0 t1 t2 : ℕ) (i1 i2 : Images) (f0 f1 f2 : List ℕ → ℕ) (served : List Pub) (slot age version : ℕ) (u : units.Held)
     → AreDistinct old.opening → Going old now st0 st1 told0 told1 t0 t1 i1 f0 f1 served → Adds now (Due slot age version) mid → slot < length old.opening.slots → u.slot ≡ slot_at old.opening slot
-    → content_of u ≡ unit_for old.opening (state_of now) (Due slot age version) → Wrote told1 told2 t1 t2 i1 i2 f1 f2 st1 st2 slot u (Err Memory) → Ends old mid told0 told2 t0 t2 i2 f0 f2
+    → content_of u ≡ unit_for old.opening (state_of now) (Due slot age version) → Wrote told1 told2 t1 t2 i1 i2 f1 f2 st1 st2 slot u (Err Memory) → Ends old mid st0 told0 told2 t0 t2 i2 f0 f2
 stopped_ends old now mid st0 st1 st2 told0 told1 told2 t0 t1 t2 i1 i2 f0 f1 f2 served slot age version u distinct g adds there named handed w =
     let o = old.opening in
     let leg : List Entry = Due slot age version ∷ [] in
@@ -381,6 +431,12 @@ stopped_ends old now mid st0 st1 st2 told0 told1 told2 t0 t1 t2 i1 i2 f0 f1 f2 s
     let e = sym (added_is old mid (g.more ++ leg) is) in
     let behind = state_more old now g.more g.journal in
     let opened = (due_open (state_of now) slot age version adds.replied).1 in
+    let outcome : Result ℕ PubErr = Err Memory in
+    let x : Attempt = record { slot = slot; age = age; version = version; unit = u; standing = standing_at st1 slot; outcome = outcome } in
+    let all : List Attempt = g.rewriting.all ++ x ∷ [] in
+    let all_handed : AreHanded o (state_of old) st0 all = handed_more o (state_of old) st0 g.rewriting.all x g.rewriting.handed (handed_behind old now st1 g x there named handed refl) in
+    let areas : AreRewritten told0 told2 all = areas_more g.rewriting.all x told0 told1 told2 g.rewriting.areas w.areas in
+    let only : OnlyPublishes o.slots told0 told2 = record { all = all; theirs = of_slots o (state_of old) st0 all all_handed; areas = areas } in
     let here : (k : ℕ) → k < length o.slots → (slot_of (state_of old) k).shut ≡ false
     → ForBoth told0 (slot_at o k) (λ a b. Survives i2 t0 t2 o (state_of old) k (g.more ++ leg) (held (slot_at o k) a b)) =
     λ k within was. dite (ℕ_discrete k slot)
@@ -399,7 +455,15 @@ stopped_ends old now mid st0 st1 st2 told0 told1 told2 t0 t1 t2 i1 i2 f0 f1 f2 s
       grew = grew old mid (g.more ++ leg) is (replied_both old now g.more leg g.journal g.replied (adds.replied, tt)) (all-append _ g.more leg g.theirs (refl, tt));
       counts = none_falls f0 f1 f2 g.counts w.cause.later;
       others = subst (λ es. KeepsOthers o es told0 told2) e
-          (others_more o g.more [] slot age version told0 told1 told2 u (free (standing_at st1 slot).held) named g.others w.publication.others);
+          (others_more o g.more [] slot age version told0 told1 told2 u (free (standing_at st1 slot).held) named g.others w.areas.others);
+      rewriting = subst (λ es. Rewriting o (state_of old) es st0 told0 told2) e (record {
+        all = all;
+        entries_are = ap (λ (es : List Entry). es ++ leg) g.rewriting.entries_are ∙ sym (entries-append g.rewriting.all x);
+        handed = all_handed;
+        areas = areas;
+      });
+      only = only;
+      strangers = strangers_kept o.slots told0 told2 only;
       survives = λ k within was a b ta tb la lb. subst (λ es. Survives i2 t0 t2 o (state_of old) k es (held (slot_at o k) a b)) e (here k within was a b ta tb la lb);
     }
 
@@ -453,10 +517,10 @@ going_next old now mid new st0 st1 st2 told0 told1 told2 t0 t1 t2 i1 i2 f0 f1 f2
 pub going_stops : (old now mid new : History) (st0 st1 st2 : List Standing) (told0 told1 told2 : Told) (t0 t1 t2 : ℕ) (i1 i2 : Images) (f0 f1 f2 : List ℕ → ℕ) (served : List Pub) (slot age version : ℕ) (u : units.Held)
     (outcome : Result ℕ PubErr) → AreDistinct old.opening → Going old now st0 st1 told0 told1 t0 t1 i1 f0 f1 served → Adds now (Due slot age version) mid → slot < length now.opening.slots
     → u.slot ≡ slot_at now.opening slot → content_of u ≡ unit_for now.opening (state_of now) (Due slot age version)
-    → Wrote told1 told2 t1 t2 i1 i2 f1 f2 st1 st2 slot u outcome → (outcome ≡ Err Memory) × (new ≡ mid) → Ends old new told0 told2 t0 t2 i2 f0 f2
+    → Wrote told1 told2 t1 t2 i1 i2 f1 f2 st1 st2 slot u outcome → (outcome ≡ Err Memory) × (new ≡ mid) → Ends old new st0 told0 told2 t0 t2 i2 f0 f2
 going_stops old now mid new st0 st1 st2 told0 told1 told2 t0 t1 t2 i1 i2 f0 f1 f2 served slot age version u outcome distinct g adds within named handed w stopped =
     let opening = same_opening old now g.more g.journal in
-    subst (λ (h : History). Ends old h told0 told2 t0 t2 i2 f0 f2) (sym stopped.1)
+    subst (λ (h : History). Ends old h st0 told0 told2 t0 t2 i2 f0 f2) (sym stopped.1)
     (stopped_ends old now mid st0 st1 st2 told0 told1 told2 t0 t1 t2 i1 i2 f0 f1 f2 served slot age version u distinct g adds (subst (λ (o : Opening). slot < length o.slots) opening within)
     (named ∙ ap (λ (o : Opening). slot_at o slot) opening) (subst (λ (o : Opening). content_of u ≡ unit_for o (state_of now) (Due slot age version)) opening handed)
     (subst (λ r. Wrote told1 told2 t1 t2 i1 i2 f1 f2 st1 st2 slot u r) stopped.0 w))

@@ -14,6 +14,7 @@ use Rattle.registry.specs.Registry.{AreReplied, slot_of}
 use Rattle.registry.specs.History.{History, state_of}
 use Rattle.publisher.specs.Loads.{NoneFalls}
 use Rattle.publisher.specs.Serving.{AreCaused, AreTheirs, Grew, Publishes, added, seqs_all, seqs_of, standing_at}
+use Rattle.publisher.specs.Areas.{AreToldAs, KeepsStrangers, OnlyPublishes, Rewriting, all_standings}
 use Rattle.publisher.specs.Folder.{HoldsBehind, HoldsNow, IsSound, KeepsOthers, Survives}
 
 -- ---- one slot
@@ -44,14 +45,20 @@ pub record Going (old now : History) (st0 st1 : List Standing) (told0 told1 : To
   pub counts : NoneFalls f0 f1
   pub caused : AreCaused old.opening f0 f1 served
   pub others : KeepsOthers old.opening more told0 told1
+  pub rewriting : Rewriting old.opening (state_of old) more st0 told0 told1
+  pub behind : st1 ≡ all_standings rewriting.all st0
+  pub told_as : AreToldAs rewriting.all served
   pub later : t0 ≤ t1
   pub slots : (k : ℕ) → k < length old.opening.slots → Slotted old.opening (state_of old) more served st1 told0 told1 t0 t1 images (slot_of (state_of old) k).shut (slot_of (state_of now) k).shut k
 
 -- what holds at the end, also where memory ran out
-pub record Ends (old new : History) (told0 told1 : Told) (t0 t1 : ℕ) (images : Images) (f0 f1 : List ℕ → ℕ) : Type 0 where
+pub record Ends (old new : History) (st0 : List Standing) (told0 told1 : Told) (t0 t1 : ℕ) (images : Images) (f0 f1 : List ℕ → ℕ) : Type 0 where
   pub grew : Grew old new
   pub counts : NoneFalls f0 f1
   pub others : KeepsOthers old.opening (added old new) told0 told1
+  pub rewriting : Rewriting old.opening (state_of old) (added old new) st0 told0 told1
+  pub only : OnlyPublishes old.opening.slots told0 told1
+  pub strangers : KeepsStrangers old.opening.slots told0 told1
   pub survives : (k : ℕ) → k < length old.opening.slots → (slot_of (state_of old) k).shut ≡ false
       → ForBoth told0 (slot_at old.opening k) (λ a b. Survives images t0 t1 old.opening (state_of old) k (added old new) (held (slot_at old.opening k) a b))
 

@@ -9,6 +9,7 @@ ghost use Rattle.registry.specs.History.{Adds, MayAnswer, state_of};
 ghost use Rattle.std.specs.List.{AllByRecursion};
 ghost use Rattle.publisher.specs.Loads.{NoneFalls};
 ghost use Rattle.publisher.specs.Serving.{AreCaused, AreDistinct, Grew, Publishes, added, last_seq, seqs_all, seqs_of, standing_at};
+ghost use Rattle.publisher.specs.Areas.{AreToldAs, KeepsStrangers, OnlyPublishes, Rewriting};
 ghost use Rattle.publisher.specs.Folder.{HoldsBehind, HoldsNow, IsSound, KeepsOthers, Survives};
 ghost use Rattle.publisher.specs.Leg.{Serves, Tells, Wrote, answer_to};
 ghost use Rattle.publisher.specs.Going.{Ends, Whole};
@@ -114,7 +115,7 @@ fn serve_all<H: Shelf>(
     requires names { AreDistinct registry.old.opening }
     requires fits { (k : ℕ) → k < length registry.old.opening.slots → (slot_of (state_of registry.old) k).shut ≡ false →
         Fits (H.told shelf.old) (H.images shelf.old) (H.moment shelf.old) (slot_at registry.old.opening k) (standing_at standings.old k) }
-    ensures ends { Ends registry.old registry.new (H.told shelf.old) (H.told shelf.new) (H.moment shelf.old) (H.moment shelf.new) (H.images shelf.new)
+    ensures ends { Ends registry.old registry.new standings.old (H.told shelf.old) (H.told shelf.new) (H.moment shelf.old) (H.moment shelf.new) (H.images shelf.new)
         (H.faults shelf.old) (H.faults shelf.new) }
     ensures whole { IfOk result (λ v. Whole registry.old registry.new standings.old standings.new (H.told shelf.old) (H.told shelf.new) (H.moment shelf.old) (H.moment shelf.new)
         (H.images shelf.new) (H.faults shelf.old) (H.faults shelf.new) v.items) }
@@ -154,6 +155,9 @@ pub fn serve<H: Shelf>(
     ensures grew { Grew registry.old registry.new }
     ensures counts { NoneFalls (H.faults shelf.old) (H.faults shelf.new) }
     ensures others { KeepsOthers registry.old.opening (added registry.old registry.new) (H.told shelf.old) (H.told shelf.new) }
+    ensures strangers { KeepsStrangers registry.old.opening.slots (H.told shelf.old) (H.told shelf.new) }
+    ensures only { OnlyPublishes registry.old.opening.slots (H.told shelf.old) (H.told shelf.new) }
+    ensures areas { Rewriting registry.old.opening (state_of registry.old) (added registry.old registry.new) standings.old (H.told shelf.old) (H.told shelf.new) }
     ensures crash { (k : ℕ) → k < length registry.old.opening.slots → (slot_of (state_of registry.old) k).shut ≡ false →
         ForBoth (H.told shelf.old) (slot_at registry.old.opening k) (λ a b. Survives (H.images shelf.new) (H.moment shelf.old) (H.moment shelf.new)
         registry.old.opening (state_of registry.old) k (added registry.old registry.new) (held (slot_at registry.old.opening k) a b)) }
@@ -164,6 +168,9 @@ pub fn serve<H: Shelf>(
     ensures folder { IfOk result (λ v. (k : ℕ) → k < length registry.old.opening.slots → AllByRecursion (IsSound k) v.items →
         ForBoth (H.told shelf.old) (slot_at registry.old.opening k) (λ a b. HoldsNow (H.told shelf.new) (slot_at registry.old.opening k)
         (HoldsBehind registry.old.opening (state_of registry.old) k (added registry.old registry.new) (held (slot_at registry.old.opening k) a b)))) }
+    // The same publications are told.
+    ensures written { IfOk result (λ v. (r : Rewriting registry.old.opening (state_of registry.old) (added registry.old registry.new) standings.old
+        (H.told shelf.old) (H.told shelf.new)) × AreToldAs r.all v.items) }
     ensures seqs { OnOk result (seqs_of standings.new ≡ seqs_all (added registry.old registry.new) (seqs_of standings.old)) }
     ensures fits { OnOk result ((k : ℕ) → k < length registry.old.opening.slots → (slot_of (state_of registry.new) k).shut ≡ false →
         Fits (H.told shelf.new) (H.images shelf.new) (H.moment shelf.new) (slot_at registry.old.opening k) (standing_at standings.new k)) }
