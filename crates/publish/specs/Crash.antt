@@ -1,5 +1,5 @@
 -- What a slot's two areas hold after a crash, at each moment.
-use Rattle.std.specs.Prelude.{◌≡◌, ◌⊎◌, ℕ, ◌+◌, ◌<◌, ◌≤◌, List, length, Option, Some, None, Result, Err, OnOk}
+use Rattle.std.specs.Prelude.{◌≡◌, ◌⊎◌, ℕ, ◌+◌, ◌<◌, ◌≤◌, List, length, Option, Some, Result, Err, OnOk}
 use Rattle.shelf_model.specs.declared.shelf.Area.{Area}
 use Rattle.shelf_model.specs.declared.shelf.Area.TheVariants.{A, B}
 use Rattle.shelf_model.specs.Shelf.{Told, Images, Leaves, Passes}

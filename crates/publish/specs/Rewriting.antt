@@ -1,5 +1,5 @@
 -- What a publication makes of the areas, however long they are.
-use Rattle.std.specs.Prelude.{◌≡◌, ℕ, ◌+◌, None, Result, Ok, Err}
+use Rattle.std.specs.Prelude.{◌≡◌, ◌+◌, None, Result, Ok, Err}
 use Rattle.shelf_model.specs.Shelf.{Told, TellsOthers, WhereTold}
 use Rattle.unit_set.specs.Slot.{slot_text}
 use Rattle.unit_set.specs.Held.{Held}

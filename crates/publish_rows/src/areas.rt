@@ -41,20 +41,6 @@ fn version_one_then_two(rt: HostRuntime) -> Result<(), Fail> {
     Ok(())
 }
 
-// Beside an area over the limit the other is written as ever.
-#[test]
-fn beside_a_long_area(rt: HostRuntime) -> Result<(), Fail> {
-    let alloc = rt.alloc();
-    let unit = unit_of(alloc, &ONE)?;
-    let long = vec![in alloc; 0xa5u8; 4_194_305]?;
-    let mut shelf = with_area(alloc, Area::B, &long)?;
-    assert_eq!(rt; renew(alloc, &mut shelf, &unit), Ok(Ok(3)));
-    assert_eq!(rt; bytes_of(&mut shelf, Area::A)?.as_slice(), TWO.as_slice());
-    let kept = shelf.read(NAME, Area::B, 4_194_305);
-    assert_eq!(rt; kept.ok().map(|bytes| bytes.len()), Some(4_194_305));
-    Ok(())
-}
-
 #[test]
 fn short_area(rt: HostRuntime) -> Result<(), Fail> {
     let alloc = rt.alloc();

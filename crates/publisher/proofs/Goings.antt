@@ -34,7 +34,7 @@ use Rattle.publisher.specs.Loads.{NoneFalls, blank}
 use Rattle.publisher.specs.Serving.{AreDistinct, Answers, IsCaused, dues, last_seq, seq_at, seqs_after, seqs_all, seqs_of, standing_at}
 use Rattle.publisher.specs.Folder.{HoldsBehind, IsApart, IsSound, KeepsOthers, Survives, acks}
 use Rattle.publisher.specs.Leg.{IsServed, Tells, Wrote, answer_to}
-use Rattle.publisher.specs.Areas.{AreHanded, AreRewritten, Attempt, IsHanded, OnlyPublishes, Rewriting, all_entries, all_standings, entries_of}
+use Rattle.publisher.specs.Areas.{AreHanded, AreRewritten, Attempt, IsHanded, OnlyPublishes, Rewriting, all_entries, all_standings}
 use Rattle.publisher.specs.Going.{Ends, Going, Lasts, Slotted}
 use Rattle.publisher.proofs.Entries.{Pair, added_is, all-append, all_left, all_right, all_wider, answer_theirs, due_open, grew, journal_both, journal_none, pair_fewer, pair_journal, pair_other, pair_replied, pair_shut, publishes-snoc, replied_both, same_opening, seqs-append, state_more}
 use Rattle.publisher.proofs.Rewritings.{answer_is, areas_more, entries-append, handed_more, of_slots, standings-append, strangers_kept, told_more}
@@ -410,6 +410,12 @@ going_ends old new st0 st1 told0 told1 t0 t1 i1 f0 f1 served g =
       survives = λ k within opened a b ta tb la lb.
           subst (λ es. Survives i1 t0 t1 old.opening (state_of old) k es (held (slot_at old.opening k) a b)) e ((g.slots k within).lasts opened a b ta tb la lb).survives;
     }
+
+-- also where nothing more was done
+pub going_rests : (old now new : History) (st0 st1 : List Standing) (told0 told1 : Told) (t0 t1 : ℕ) (i1 : Images) (f0 f1 : List ℕ → ℕ) (served : List Pub) → new ≡ now → Going old now st0 st1 told0 told1 t0 t1 i1 f0 f1 served
+    → Ends old new st0 told0 told1 t0 t1 i1 f0 f1
+going_rests old now new st0 st1 told0 told1 t0 t1 i1 f0 f1 served same g =
+    subst (λ (h : History). Ends old h st0 told0 told1 t0 t1 i1 f0 f1) (sym same) (going_ends old now st0 st1 told0 told1 t0 t1 i1 f0 f1 served g)
 
 blank_pub : Pub
 blank_pub = record { slot = 0; age = 0; version = 0; seq = 0; stages = 0; fault = None }

@@ -4,10 +4,10 @@ use Rattle.publish.specs.declared.outcome.Pub.{Pub}
 use Rattle.registry.specs.declared.registry.Due.{Due as Answer}
 use Rattle.registry.specs.Content.{content_of}
 use Rattle.registry.specs.Dues.{Dues, HasName}
-use Rattle.registry.specs.History.{History, state_of}
-use Rattle.publisher.specs.Going.{Ends, Going}
+use Rattle.registry.specs.History.{state_of}
+use Rattle.publisher.specs.Going.{Going}
 use Rattle.publisher.proofs.Entries.{dues_few, no_dues}
-use Rattle.publisher.proofs.Goings.{going_ends, going_fits, going_next, going_start, going_stops}
+use Rattle.publisher.proofs.Goings.{going_ends, going_fits, going_next, going_rests, going_start, going_stops}
 use Rattle.publisher.proofs.serving.serve_all.Goals as goal
 
 pub loop-init : goal.loop-init
@@ -63,21 +63,16 @@ loop-preserved g c =
       omega (arith, next.1, c.loop.invariant.1),
     )
 
-pub returns-clause-whole : goal.returns-clause-whole
-returns-clause-whole g c = record { going = c.loop.invariant.0; none_due = no_dues (state_of c.loop.registry) (omega (arith, c.loop.invariant.1, c.loop-test.false)) }
-
 pub returns-in_err-slot-clause-ends : goal.returns-in_err-slot-clause-ends
-returns-in_err-slot-clause-ends g c =
-    let shelf = g.H.Shelf in
-    subst (λ (h : History). Ends c.args.registry.now h c.args.standings.now (shelf.told c.args.shelf.now) (shelf.told c.loop.shelf) (shelf.moment c.args.shelf.now) (shelf.moment c.loop.shelf)
-    (shelf.images c.loop.shelf) (shelf.faults c.args.shelf.now) (shelf.faults c.loop.shelf)) (sym c.in_err-slot.ensures.err) (going_ends _ _ _ _ _ _ _ _ _ _ _ _ c.loop.invariant.0)
+returns-in_err-slot-clause-ends g c = going_rests _ _ _ _ _ _ _ _ _ _ _ _ _ c.in_err-slot.ensures.err c.loop.invariant.0
 
 pub returns-in_default-clause-ends : goal.returns-in_default-clause-ends
 returns-in_default-clause-ends g c =
-    let shelf = g.H.Shelf in
     let d = subst (λ (x : Answer). Dues c.loop.registry c.due.new.self x) c.in_default.is c.in_ok-slot.ensures.ok in
-    subst (λ (h : History). Ends c.args.registry.now h c.args.standings.now (shelf.told c.args.shelf.now) (shelf.told c.loop.shelf) (shelf.moment c.args.shelf.now) (shelf.moment c.loop.shelf)
-    (shelf.images c.loop.shelf) (shelf.faults c.args.shelf.now) (shelf.faults c.loop.shelf)) (sym d.1) (going_ends _ _ _ _ _ _ _ _ _ _ _ _ c.loop.invariant.0)
+    going_rests _ _ _ _ _ _ _ _ _ _ _ _ _ d.1 c.loop.invariant.0
 
 pub returns-clause-ends : goal.returns-clause-ends
 returns-clause-ends g c = going_ends _ _ _ _ _ _ _ _ _ _ _ _ c.loop.invariant.0
+
+pub returns-clause-whole : goal.returns-clause-whole
+returns-clause-whole g c = record { going = c.loop.invariant.0; none_due = no_dues (state_of c.loop.registry) (omega (arith, c.loop.invariant.1, c.loop-test.false)) }
