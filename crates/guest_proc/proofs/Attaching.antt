@@ -1,16 +1,18 @@
 -- A unit is attached, and blocks are offered to one.
 use Rattle.std.proofs.Common.{◌≡◌, ℕ, ◌+◌, ◌%◌, ◌<◌, ◌==◌, ◌&&◌, ◌⊎◌, Bool, true, false, List, [], ◌∷◌, ◌++◌, length, map, Option, Some, None, refl, sym, ◌∙◌, ap, subst, arith, inl, inr}
-use Rattle.std.specs.Prelude.{find}
+use Rattle.std.specs.Prelude.{find, is_some, nat_le, not}
 use Rattle.std.specs.Option.{option_or}
 use Rattle.std.specs.List.{All, list_any}
 use Rattle.std.specs.Ordering.{nat_cmp, eq_by_cmp}
 use Rattle.std.specs.Cmp.{nat_cmp_total}
 use Rattle.std.specs.FinMap as fin
+use Rattle.std.specs.FinSet as set
 use Rattle.std.proofs.lemmas.Bool.{cases_Bool, or_parts}
 use Rattle.std.proofs.lemmas.Bool.Decides.{nat_tests}
 use Rattle.std.proofs.lemmas.List.Elements.{All-head, All-tail}
 use Rattle.std.proofs.lemmas.Option.{same_Some}
 use Rattle.cc_base.specs.Image.{Code}
+use Rattle.cc_base.specs.Span.{Range}
 use Rattle.rv_decode.specs.declared.ins.Isa.{Isa}
 use Rattle.probe_tools.specs.declared.tool.Tool.{Tool}
 use Rattle.plain_machine.specs.Region.{Area, meets}
@@ -22,14 +24,14 @@ use Rattle.fragment.proofs.Values.{value-built}
 use Rattle.engine.proofs.KeptCode.{and_left, and_right}
 use Rattle.unit_set.specs.Held.{Held, IsFreshFor}
 use Rattle.block_book.specs.Clauses.{blocks_of}
-use Rattle.block_ledger.specs.Ledger.{Ledger, Blocks, Segment, attached, candidates, flushed, offered, offered_to, view, with_all, with_offered}
+use Rattle.block_ledger.specs.Ledger.{Ledger, Blocks, Segment, attached, candidates, flushed, is_private, offered, offered_to, view, with_all, with_offered}
 use Rattle.block_ledger.specs.Traced.{Scheme, built_in}
 use Rattle.block_ledger.proofs.Gets.{got-insert, tied}
-use Rattle.guest_proc.specs.Fresh.{AreFresh, AreMapped, extent}
+use Rattle.guest_proc.specs.Fresh.{AreFresh, AreMapped, AreOfUnits, extent}
 use Rattle.guest_proc.specs.Kept.{IsReady}
-use Rattle.guest_proc.specs.Maps.{put_to}
+use Rattle.guest_proc.specs.Maps.{IsVacant, put_to}
 use Rattle.guest_proc.specs.Process.{Process}
-use Rattle.guest_proc.proofs.Kept.{fresh-flushed, mapped-segments}
+use Rattle.guest_proc.proofs.Kept.{fresh-flushed, mapped-segments, shares-only, units-kept}
 
 -- ---- the region of an address beside another
 
@@ -123,6 +125,16 @@ pub record Fits (scheme : Scheme) (isa : Isa) (m : Memory) (u : Held) : Type 0 w
   pub same_tool : u.slot.tool ≡ scheme.tool
   pub same_max : u.slot.max ≡ scheme.max
 
+unit_built : (scheme : Scheme) (isa : Isa) (m : Memory) (u : Held) (a : ℕ) (f : Parts) → Fits scheme isa m u → fin.get (blocks_of u.frags) a ≡ Some f → built u.image a isa scheme.tool scheme.max ≡ Some f
+unit_built scheme isa m u a f fits is =
+    ap (λ x. built u.image a x scheme.tool scheme.max) (sym fits.same_isa) ∙ ap (λ x. built u.image a u.slot.isa x scheme.max) (sym fits.same_tool) ∙ ap (λ x. built u.image a u.slot.isa u.slot.tool x) (sym fits.same_max)
+    ∙ found_built u a f u.frags fits.fresh (sym (fin.get-from_entries nat_cmp_total (map (λ g. (g.address, g)) u.frags) a) ∙ is)
+
+-- where one of its blocks begins, the memory has its image
+image_there : (scheme : Scheme) (isa : Isa) (m : Memory) (u : Held) (a : ℕ) (f : Parts) → 0 < scheme.max → Fits scheme isa m u → built u.image a isa scheme.tool scheme.max ≡ Some f → code_at m a ≡ Some u.image
+image_there scheme isa m u a f some fits there =
+    code_by u.image.start a m u.image (find (has_code u.image.start 1) m) fits.memory refl fits.there (built_word u.image isa scheme.tool scheme.max a f some there)
+
 fresh-attached : (scheme : Scheme) (isa : Isa) (m : Memory) (i : ℕ) (u : Held) (led : Ledger) → 0 < scheme.max → Fits scheme isa m u → AreFresh scheme.tool scheme.max isa m led →
     AreFresh scheme.tool scheme.max isa m (attached i u.image (blocks_of u.frags) led)
 fresh-attached scheme isa m i u led some fits fresh a f is =
@@ -130,13 +142,76 @@ fresh-attached scheme isa m i u led some fits fresh a f is =
     ap (λ o. option_or o (fin.get led.private a)) (sym (got_all led.shared (blocks_of u.frags) a)) ∙ is in
     elim (either_of (fin.get (blocks_of u.frags) a) (fin.get led.shared a) (fin.get led.private a) f parts) [
       | inl in_unit ↦
-          let own : built u.image a u.slot.isa u.slot.tool u.slot.max ≡ Some f = found_built u a f u.frags fits.fresh (sym (fin.get-from_entries nat_cmp_total (map (λ g. (g.address, g)) u.frags) a) ∙ in_unit) in
-          let there : built u.image a isa scheme.tool scheme.max ≡ Some f =
-          ap (λ x. built u.image a x scheme.tool scheme.max) (sym fits.same_isa) ∙ ap (λ x. built u.image a u.slot.isa x scheme.max) (sym fits.same_tool) ∙ ap (λ x. built u.image a u.slot.isa u.slot.tool x) (sym fits.same_max) ∙ own in
-          ap (λ o. built_in o a isa scheme.tool scheme.max)
-          (code_by u.image.start a m u.image (find (has_code u.image.start 1) m) fits.memory refl fits.there (built_word u.image isa scheme.tool scheme.max a f some there)) ∙ there
+          let there = unit_built scheme isa m u a f fits in_unit in
+          ap (λ o. built_in o a isa scheme.tool scheme.max) (image_there scheme isa m u a f some fits there) ∙ there
       | inr before ↦ fresh a f before
     ]
+
+-- ---- the blocks of all units
+
+some_value : (o : Option Parts) → is_some o ≡ true → (f : Parts) × (o ≡ Some f)
+some_value None e = absurd (cc)
+some_value (Some f) e = (f, refl)
+
+either_two : (a b : Option Parts) (f : Parts) → option_or a b ≡ Some f → (a ≡ Some f) ⊎ (b ≡ Some f)
+either_two None b f e = inr e
+either_two (Some x) b f e = inl e
+
+-- the segment of this unit
+abbrev with_unit : Held → Segment
+with_unit u = record { image = u.image; addresses = set.from_list (fin.keys (blocks_of u.frags)); offered = set.empty }
+
+has_own : (unit : Blocks) (a : ℕ) → set.contains (set.from_list {R = nat_cmp} (fin.keys unit)) a ≡ is_some (fin.get unit a)
+has_own unit a = set.contains-from_list nat_cmp_total (fin.keys unit) a ∙ sym (fin.contains_key-keys unit a)
+
+same_word : (c d : Code) (a : ℕ) → d.start ≡ c.start → length d.bytes ≡ length c.bytes → has_word c a ≡ true → has_word d a ≡ true
+same_word c d a s l h = subst (λ x. (nat_le x a && nat_le (a + 4) (x + length d.bytes)) ≡ true) (sym s) (subst (λ n. (nat_le c.start a && nat_le (a + 4) (c.start + n)) ≡ true) (sym l) h)
+
+-- a word in the region of a code that a memory has elsewhere is in that one
+start_by : (m : Memory) (a : ℕ) (c image : Code) (o : Option Code) → IsMemory m → code_at m c.start ≡ o → extent o ≡ extent (Some c) → has_word c a ≡ true → code_at m a ≡ Some image → c.start ≡ image.start
+start_by m a c image None good is e h there = absurd (cc)
+start_by m a c image (Some d) good is e h there =
+    let same : record { start = d.start; len = length d.bytes } ≡ record { start = c.start; len = length c.bytes } = same_Some (record { start = d.start; len = length d.bytes }) (record { start = c.start; len = length c.bytes }) e in
+    let start : d.start ≡ c.start = ap (λ (r : Range). r.start) same in
+    let within : has_word d a ≡ true = same_word c d a start (ap (λ (r : Range). r.len) same) h in
+    let here : code_at m a ≡ Some d = code_by c.start a m d (find (has_code c.start 1) m) good refl is within in
+    sym start ∙ ap (λ (x : Code). x.start) (same_Some d image (sym here ∙ there))
+
+module _ (scheme : Scheme) (isa : Isa) (m : Memory) (i : ℕ) (u : Held) (led : Ledger) (some : 0 < scheme.max) (fits : Fits scheme isa m u) where
+  own_have : (a : ℕ) → set.contains (with_unit u).addresses a ≡ true → is_some (built u.image a isa scheme.tool scheme.max) ≡ true
+  own_have a has = let f = some_value (fin.get (blocks_of u.frags) a) (sym (has_own (blocks_of u.frags) a) ∙ has) in ap is_some (unit_built scheme isa m u a f.0 fits f.1)
+
+  own_stand : (a : ℕ) (block : Parts) → set.contains (with_unit u).addresses a ≡ true → fin.get (with_all led.shared (fin.entries (blocks_of u.frags))) a ≡ Some block → built u.image a isa scheme.tool scheme.max ≡ Some block
+  own_stand a block has there =
+      let f = some_value (fin.get (blocks_of u.frags) a) (sym (has_own (blocks_of u.frags) a) ∙ has) in
+      let is : Some f.0 ≡ Some block = sym (got_all led.shared (blocks_of u.frags) a ∙ ap (λ o. option_or o (fin.get led.shared a)) f.1) ∙ there in
+      unit_built scheme isa m u a f.0 fits f.1 ∙ is
+
+  other_stand : IsVacant u.image led → AreMapped m led → AreOfUnits scheme.tool scheme.max isa led → (j : ℕ) (seg : Segment) (a : ℕ) (block : Parts) → fin.get led.segments j ≡ Some seg → set.contains seg.addresses a ≡ true →
+      fin.get (with_all led.shared (fin.entries (blocks_of u.frags))) a ≡ Some block → built seg.image a isa scheme.tool scheme.max ≡ Some block
+  other_stand vacant mapped units j seg a block is has there = elim (either_two (fin.get (blocks_of u.frags) a) (fin.get led.shared a) block (sym (got_all led.shared (blocks_of u.frags) a) ∙ there)) [
+    | inl own ↦
+        let f = some_value (built seg.image a isa scheme.tool scheme.max) (units.have j seg a is has) in
+        let at : code_at m a ≡ Some u.image = image_there scheme isa m u a block some fits (unit_built scheme isa m u a block fits own) in
+        absurd (vacant.none j seg is (start_by m a seg.image u.image (code_at m seg.image.start) fits.memory refl (mapped j seg is) (built_word seg.image isa scheme.tool scheme.max a f.0 some f.1) at))
+    | inr before ↦ units.stand j seg a block is has before
+  ]
+
+  units-attached : IsVacant u.image led → AreMapped m led → AreOfUnits scheme.tool scheme.max isa led → AreOfUnits scheme.tool scheme.max isa (attached i u.image (blocks_of u.frags) led)
+  units-attached vacant mapped units = record {
+    have = λ j seg a is has. elim (cases_Bool (eq_by_cmp nat_cmp j i)) [
+      | inl same ↦
+          let one : Some (with_unit u) ≡ Some seg = (let h = sym (got-insert led.segments i (with_unit u) j) ∙ is in rw same at h) in
+          subst (λ (s : Segment). set.contains s.addresses a ≡ true → is_some (built s.image a isa scheme.tool scheme.max) ≡ true) (same_Some (with_unit u) seg one) (own_have a) has
+      | inr other ↦ let old : fin.get led.segments j ≡ Some seg = (let h = sym (got-insert led.segments i (with_unit u) j) ∙ is in rw other at h) in units.have j seg a old has
+    ];
+    stand = λ j seg a block is has there. elim (cases_Bool (eq_by_cmp nat_cmp j i)) [
+      | inl same ↦
+          let one : Some (with_unit u) ≡ Some seg = (let h = sym (got-insert led.segments i (with_unit u) j) ∙ is in rw same at h) in
+          subst (λ (s : Segment). set.contains s.addresses a ≡ true → built s.image a isa scheme.tool scheme.max ≡ Some block) (same_Some (with_unit u) seg one) (λ h. own_stand a block h there) has
+      | inr other ↦ let old : fin.get led.segments j ≡ Some seg = (let h = sym (got-insert led.segments i (with_unit u) j) ∙ is in rw other at h) in other_stand vacant mapped units j seg a block old has there
+    ];
+  }
 
 mapped-attached : (m : Memory) (i : ℕ) (image : Code) (unit : Blocks) (led : Ledger) → code_at m image.start ≡ Some image → AreMapped m led → AreMapped m (attached i image unit led)
 mapped-attached m i image unit led here mapped j seg is = elim (cases_Bool (eq_by_cmp nat_cmp j i)) [
@@ -147,12 +222,13 @@ mapped-attached m i image unit led here mapped j seg is = elim (cases_Bool (eq_b
   | inr other ↦ let old : fin.get led.segments j ≡ Some seg = (let h = sym (got-insert led.segments i _ j) ∙ is in rw other at h) in mapped j seg old
 ]
 
-pub ready-attached : (scheme : Scheme) (p : Process) (i : ℕ) (u : Held) → 0 < scheme.max → Fits scheme p.state.cpu.isa p.state.memory u → IsReady scheme p →
+pub ready-attached : (scheme : Scheme) (p : Process) (i : ℕ) (u : Held) → 0 < scheme.max → Fits scheme p.state.cpu.isa p.state.memory u → IsVacant u.image p.ledger → IsReady scheme p →
     IsReady scheme (put_to p p.state (attached i u.image (blocks_of u.frags) p.ledger))
-ready-attached scheme p i u some fits ready = record {
+ready-attached scheme p i u some fits vacant ready = record {
   aligned = ready.aligned;
   fresh = fresh-attached scheme p.state.cpu.isa p.state.memory i u p.ledger some fits ready.fresh;
   mapped = mapped-attached p.state.memory i u.image (blocks_of u.frags) p.ledger fits.there ready.mapped;
+  units = units-attached scheme p.state.cpu.isa p.state.memory i u p.ledger some fits vacant ready.mapped ready.units;
   inert = ready.inert;
   small = ready.small;
   few = ready.few;
@@ -182,11 +258,41 @@ mapped_offered : (m : Memory) (i : ℕ) (o : Option Segment) (led : Ledger) → 
 mapped_offered m i None led at mapped = mapped
 mapped_offered m i (Some one) led at mapped = λ j seg is. offered_one m i j one (with_offered one (candidates one led)) seg led refl at mapped is
 
+-- the segment as it was before an offer
+record Was (led : Ledger) (j : ℕ) (seg : Segment) : Type 0 where
+  before : Segment
+  at : fin.get led.segments j ≡ Some before
+  image : before.image ≡ seg.image
+  addresses : before.addresses ≡ seg.addresses
+
+offered_was : (i j : ℕ) (one more seg : Segment) (led : Ledger) → more.image ≡ one.image → more.addresses ≡ one.addresses → fin.get led.segments i ≡ Some one → fin.get (fin.insert led.segments i more) j ≡ Some seg → Was led j seg
+offered_was i j one more seg led image addresses at is = elim (cases_Bool (eq_by_cmp nat_cmp j i)) [
+  | inl here ↦
+      let got : Some more ≡ Some seg = let h = sym (got-insert led.segments i more j) ∙ is in rw here at h in
+      let same : more ≡ seg = same_Some more seg got in
+      record { before = one; at = ap (fin.get led.segments) (tied j i here) ∙ at; image = sym image ∙ ap (λ s. s.image) same; addresses = sym addresses ∙ ap (λ s. s.addresses) same }
+  | inr other ↦ let old : fin.get led.segments j ≡ Some seg = (let h = sym (got-insert led.segments i more j) ∙ is in rw other at h) in record { before = seg; at = old; image = refl; addresses = refl }
+]
+
+units_offered : (tool : Tool) (max : ℕ) (isa : Isa) (i : ℕ) (o : Option Segment) (led : Ledger) → fin.get led.segments i ≡ o → AreOfUnits tool max isa led → AreOfUnits tool max isa (offered_to i o led)
+units_offered tool max isa i None led at units = units
+units_offered tool max isa i (Some one) led at units =
+    let was = λ (j : ℕ) (seg : Segment) (is : fin.get (fin.insert led.segments i (with_offered one (candidates one led))) j ≡ Some seg). offered_was i j one (with_offered one (candidates one led)) seg led refl refl at is in
+    record {
+      have = λ j seg a is has.
+          let w = was j seg is in
+          subst (λ (c : Code). is_some (built c a isa tool max) ≡ true) w.image (units.have j w.before a w.at (ap (λ s. set.contains s a) w.addresses ∙ has));
+      stand = λ j seg a block is has there.
+          let w = was j seg is in
+          subst (λ (c : Code). built c a isa tool max ≡ Some block) w.image (units.stand j w.before a block w.at (ap (λ s. set.contains s a) w.addresses ∙ has) there);
+    }
+
 pub ready-offered : (scheme : Scheme) (p : Process) (i : ℕ) → IsReady scheme p → IsReady scheme (put_to p p.state (offered i p.ledger))
 ready-offered scheme p i ready = record {
   aligned = ready.aligned;
   fresh = λ a block is. ready.fresh a block (sym (view_offered (fin.get p.ledger.segments i) i p.ledger a) ∙ is);
   mapped = mapped_offered p.state.memory i (fin.get p.ledger.segments i) p.ledger refl ready.mapped;
+  units = units_offered scheme.tool scheme.max p.state.cpu.isa i (fin.get p.ledger.segments i) p.ledger refl ready.units;
   inert = ready.inert;
   small = ready.small;
   few = let same : (offered i p.ledger).counts.blocks ≡ p.ledger.counts.blocks = blocks_offered (fin.get p.ledger.segments i) i p.ledger in omega (arith, ready.few);
@@ -199,6 +305,7 @@ ready-flushed scheme p ready = record {
   aligned = ready.aligned;
   fresh = fresh-flushed scheme.tool scheme.max p.state.cpu.isa p.state.memory p.ledger ready.fresh;
   mapped = mapped-segments p.state.memory p.ledger (flushed p.ledger) refl ready.mapped;
+  units = units-kept scheme.tool scheme.max p.state.cpu.isa p.ledger (flushed p.ledger) refl (shares-only (λ a. not (is_private p.ledger a)) p.ledger) ready.units;
   inert = ready.inert;
   small = ready.small;
   few = ready.few;

@@ -15,18 +15,18 @@ use Rattle.plain_machine.specs.Run.{run_behind}
 use Rattle.plain_machine.specs.Cut.{Marked, marked, with_marks, over}
 use Rattle.report.specs.Rows.{Rows}
 use Rattle.engine.specs.Standing.{state}
-use Rattle.block_ledger.specs.Ledger.{Ledger, written}
+use Rattle.block_ledger.specs.Ledger.{Ledger, is_clear, view, written}
 use Rattle.block_ledger.specs.Requests.{Asking}
 use Rattle.block_ledger.specs.Traced.{Scheme, Trace, after_call, range_of}
 use Rattle.region_laws.specs.Heap.{HeapIsData}
 use Rattle.region_laws.specs.Calls.{CallLeaves, Leaves, CodeBehind, AsksWell, OutputBehind}
 use Rattle.region_laws.proofs.Replies.{calls-leave}
 use Rattle.guest_proc.specs.declared.stop.Stop.{Stop}
-use Rattle.guest_proc.specs.Fresh.{AreFresh, AreMapped}
+use Rattle.guest_proc.specs.Fresh.{AreFresh, AreMapped, SharesNoMore}
 use Rattle.guest_proc.specs.Kept.{StopsWell}
 use Rattle.guest_proc.specs.Called.{CallDone, stop_for, told}
 use Rattle.guest_proc.specs.Process.{Asks, CallEnds, Process, Went, answered, nothing, onward, process, trace}
-use Rattle.guest_proc.proofs.Kept.{fresh-same, fresh-stored, mapped-same, mapped-stored}
+use Rattle.guest_proc.proofs.Kept.{fresh-same, fresh-stored, mapped-same, mapped-stored, shares-only}
 
 -- what a process keeps, whatever the call came to
 fresh_by : (a : Asked) (tool : Tool) (max : ℕ) (isa now : Isa) (m after : Memory) (led : Ledger) → 0 < max → now ≡ isa → CodeBehind a m after → AreFresh tool max isa m led → AreFresh tool max now after (told a led)
@@ -58,6 +58,15 @@ segments_told (asked.Map k) led = refl
 segments_told (asked.Unmap k) led = refl
 segments_told (asked.Replace k f) led = refl
 segments_told asked.OutputFull led = refl
+
+shares_told : (a : Asked) (led : Ledger) → SharesNoMore led (told a led)
+shares_told (asked.Back None) led = λ x block is. is
+shares_told (asked.Back (Some span)) led = shares-only (λ x. is_clear (range_of span) (view led x)) led
+shares_told (asked.Exit status) led = λ x block is. is
+shares_told (asked.Map k) led = λ x block is. is
+shares_told (asked.Unmap k) led = λ x block is. is
+shares_told (asked.Replace k f) led = λ x block is. is
+shares_told asked.OutputFull led = λ x block is. is
 
 counts_told : (a : Asked) (led : Ledger) → (told a led).counts ≡ led.counts
 counts_told (asked.Back None) led = refl
@@ -142,6 +151,7 @@ call-done cpu c m after io now fuel rows led last a s good inert even is told_so
       ends = λ scheme p asks. ends_so scheme p cpu c m after io now fuel rows led a is kept.output asks;
       fresh = λ tool max some fresh. fresh_by a tool max cpu.isa c.isa m after led some kept.isa kept.code fresh;
       mapped = λ mapped. mapped_by a m after led kept.code mapped;
+      shares = shares_told a led;
       inert = kept.inert;
       aligned = kept.aligned;
       segments = segments_told a led;

@@ -8,7 +8,7 @@ use Rattle.rv_decode.specs.declared.ins.Isa.{Isa}
 use Rattle.probe_tools.specs.declared.tool.Tool.{Tool}
 use Rattle.plain_machine.specs.declared.io.Heap.{Heap}
 use Rattle.plain_machine.specs.Region.{Area, meets}
-use Rattle.plain_machine.specs.Memory.{Memory, IsMemory, has_code, as_code, code_at, refusal}
+use Rattle.plain_machine.specs.Memory.{Memory, IsMemory, has_code, as_code, code_at, code_of, refusal}
 use Rattle.plain_machine.specs.Program.{Program, Segment, area_of, base_of, placed, top_of, with_segments}
 use Rattle.plain_machine.specs.Machine.{State, heap_from}
 use Rattle.fragment.specs.Parts.{Parts}
@@ -20,9 +20,9 @@ use Rattle.block_ledger.specs.Traced.{Scheme, built_in, codes_at, codes_of}
 use Rattle.region_laws.specs.Heap.{HeapIsData}
 use Rattle.region_laws.proofs.Regions.{find-more}
 use Rattle.region_laws.proofs.Placing.{made, not_before, placed-grows, placed-stand, some_within, tail_of}
-use Rattle.guest_proc.specs.Fresh.{AreFresh, AreMapped, block_in, extent}
+use Rattle.guest_proc.specs.Fresh.{AreFresh, AreMapped, AreOfUnits, block_in, extent}
 use Rattle.guest_proc.specs.Kept.{IsReady}
-use Rattle.guest_proc.specs.Maps.{AreClear, Enters, IsEntered, Places, Placing, StandsNow, entered_state, placed_state, put_to}
+use Rattle.guest_proc.specs.Maps.{AreClear, Enters, IsEntered, IsVacant, Places, Placing, StandsNow, entered_state, placed_state, put_to}
 use Rattle.guest_proc.specs.Process.{Process}
 use Rattle.guest_proc.proofs.Entering.{entry-aligned}
 
@@ -69,16 +69,32 @@ module _ (tool : Tool) (max : ℕ) (isa : Isa) where
   none-before xs ys r a good here =
       not_before r (has_code a 1) (λ q more code. inside_met a q r here (and_right q.flags.execute (meets a 1 q) code)) xs ys good.disjoint good.in_range
 
-  clear-all : (m after : Memory) (base : ℕ) (ss : List Segment) (led : Ledger) → IsMemory after → AreFresh tool max isa m led → with_segments m base ss ≡ Ok after → AreClear (codes_at base ss) led
-  clear-all m after base [] led good fresh e = tt
-  clear-all m after base (s ∷ ss) led good fresh e =
+  first_inside : (start len : ℕ) → 0 < len → (nat_le start start && nat_lt start (start + len)) ≡ true
+  first_inside start len some = grind (arith, nat_tests)
+
+  unattached_by : (m : Memory) (x : ℕ) (image : Code) → extent (code_at m image.start) ≡ extent (Some image) → image.start ≡ x → find (has_code x 1) m ≡ None → ⊥
+  unattached_by m x image e same none =
+      let none' : extent (code_at m image.start) ≡ None = ap (λ y. extent (code_at m y)) same ∙ ap (λ o. extent (as_code o)) none in
+      let impossible = sym none' ∙ e in absurd (cc)
+
+  -- a region behind others has no live block, and no attached segment starts where it does
+  vacant : (xs ys : Memory) (r : Area) (led : Ledger) → IsMemory (xs ++ r ∷ ys) → AreFresh tool max isa xs led → AreMapped xs led → IsVacant (code_of r) led
+  vacant xs ys r led good fresh mapped = record {
+    clear = λ a here. not-live xs a led fresh (none-before xs ys r a good here);
+    none = λ i seg is same. unattached_by xs r.start seg.image (mapped i seg is) same (none-before xs ys r r.start good (first_inside r.start (length r.bytes) (some_within r xs ys good.in_range)));
+  }
+
+  clear-all : (m after : Memory) (base : ℕ) (ss : List Segment) (led : Ledger) → IsMemory after → AreFresh tool max isa m led → AreMapped m led → with_segments m base ss ≡ Ok after → AreClear (codes_at base ss) led
+  clear-all m after base [] led good fresh mapped e = tt
+  clear-all m after base (s ∷ ss) led good fresh mapped e =
       let both = made (refusal m (base + s.vaddr) s.size) (with_segments (m ++ area_of base s ∷ []) base ss) after e in
       let rest = tail_of (m ++ area_of base s ∷ []) after base ss both.1 in
       let is : after ≡ m ++ area_of base s ∷ rest.0 = rest.1 ∙ append_assoc m (area_of base s ∷ []) rest.0 in
       let good' : IsMemory (m ++ area_of base s ∷ rest.0) = subst IsMemory is good in
-      let more = clear-all (m ++ area_of base s ∷ []) after base ss led good (fresh-grown m (m ++ area_of base s ∷ []) led (λ p r. find-more p m (area_of base s) r) fresh) both.1 in
+      let more = clear-all (m ++ area_of base s ∷ []) after base ss led good (fresh-grown m (m ++ area_of base s ∷ []) led (λ p r. find-more p m (area_of base s) r) fresh)
+      (mapped-grown m (m ++ area_of base s ∷ []) led (λ p r. find-more p m (area_of base s) r) mapped) both.1 in
       elim (cases_Bool s.flags.execute) [
-        | inl runs ↦ rw runs (λ a here. not-live m a led fresh (none-before m rest.0 (area_of base s) a good' here), more)
+        | inl runs ↦ rw runs (vacant m rest.0 (area_of base s) led good' fresh mapped, more)
         | inr off ↦ rw off more
       ]
 
@@ -90,6 +106,7 @@ ready-in scheme p s ready isa grows inert aligned = record {
   aligned = aligned;
   fresh = subst (λ i. AreFresh scheme.tool scheme.max i s.memory p.ledger) (sym isa) (fresh-grown scheme.tool scheme.max p.state.cpu.isa p.state.memory s.memory p.ledger grows ready.fresh);
   mapped = mapped-grown p.state.memory s.memory p.ledger grows ready.mapped;
+  units = subst (λ i. AreOfUnits scheme.tool scheme.max i p.ledger) (sym isa) ready.units;
   inert = inert;
   small = ready.small;
   few = ready.few;
@@ -116,7 +133,7 @@ pub clear-placed : (scheme : Scheme) (program : Program) (base k f : ℕ) (old n
 clear-placed scheme program base k f old new true ready (m, e, is) stands is_so =
     let good : IsMemory m = subst (λ (p : Process). IsMemory p.state.memory) is (stands refl).memory in
     subst (λ (p : Process). AreClear (codes_of program base) p.ledger) (sym is)
-    (clear-all scheme.tool scheme.max old.state.cpu.isa old.state.memory m (base_of program base) program.segments old.ledger good ready.fresh e)
+    (clear-all scheme.tool scheme.max old.state.cpu.isa old.state.memory m (base_of program base) program.segments old.ledger good ready.fresh ready.mapped e)
 clear-placed scheme program base k f old new false ready p stands is_so = absurd (cc)
 
 pub clear-entered : (scheme : Scheme) (program : Program) (base k f : ℕ) (old new : Process) (b : Bool) → IsReady scheme old → Enters program base k f old new b →
@@ -124,7 +141,7 @@ pub clear-entered : (scheme : Scheme) (program : Program) (base k f : ℕ) (old 
 clear-entered scheme program base k f old new true ready e stands is_so =
     let good : IsMemory e.memory = subst (λ (p : Process). IsMemory p.state.memory) e.becomes (stands refl).memory in
     subst (λ (p : Process). AreClear (codes_of program base) p.ledger) (sym e.becomes)
-    (clear-all scheme.tool scheme.max old.state.cpu.isa old.state.memory e.memory (base_of program base) program.segments old.ledger good ready.fresh e.placed)
+    (clear-all scheme.tool scheme.max old.state.cpu.isa old.state.memory e.memory (base_of program base) program.segments old.ledger good ready.fresh ready.mapped e.placed)
 clear-entered scheme program base k f old new false ready p stands is_so = absurd (cc)
 
 -- ---- as it is told of a file

@@ -25,8 +25,9 @@ use Rattle.block_ledger.proofs.Gets.{got-kept}
 use Rattle.region_laws.specs.Heap.{HeapIsData, heap_at, runs_there}
 use Rattle.region_laws.specs.Standing.{AllStand, Stands}
 use Rattle.region_laws.proofs.Regions.{find-without, started}
-use Rattle.guest_proc.specs.Fresh.{AreFresh, AreMapped, block_in, extent}
+use Rattle.guest_proc.specs.Fresh.{AreFresh, AreMapped, AreOfUnits, block_in, extent}
 use Rattle.guest_proc.specs.Kept.{IsReady}
+use Rattle.guest_proc.proofs.Kept.{shares-only}
 use Rattle.guest_proc.specs.Maps.{IsPlaced, OthersStartElsewhere, put_to, unplaced_state}
 use Rattle.guest_proc.specs.Process.{Process, process}
 
@@ -191,6 +192,20 @@ heap-unplaced m (Some heap) k program base led placed h = elim (cases_Bool (is_e
       there)
 ]
 
+-- ---- the units
+
+got_value : {X : Type 0} (b : Bool) (o : Option X) (x : X) → cond b o None ≡ Some x → o ≡ Some x
+got_value true o x e = e
+got_value false o x e = absurd (cc)
+
+units-unplaced : (tool : Tool) (max : ℕ) (isa : Isa) (k : ℕ) (codes : List Code) (led : Ledger) → AreOfUnits tool max isa led → AreOfUnits tool max isa (unmapped k codes led)
+units-unplaced tool max isa k codes led units =
+    let was = λ (i : ℕ) (seg : Attached) (is : fin.get (unmapped k codes led).segments i ≡ Some seg). got_value (not (i / 4 == k)) (fin.get led.segments i) seg (sym (got-kept led.segments (λ j. not (j / 4 == k)) i) ∙ is) in
+    record {
+      have = λ i seg a is has. units.have i seg a (was i seg is) has;
+      stand = λ i seg a block is has there. units.stand i seg a block (was i seg is) has (shares-only (λ x. not (is_within x codes)) led a block there);
+    }
+
 -- ---- the process
 
 pub ready-unplaced : (scheme : Scheme) (p : Process) (k : ℕ) (program : Program) (base : ℕ) → IsMemory p.state.memory → IsPlaced p.state.memory p.state.io.heap k program base p.ledger → IsReady scheme p →
@@ -199,6 +214,7 @@ ready-unplaced scheme p k program base good placed ready = record {
   aligned = ready.aligned;
   fresh = fresh-unplaced p.state.memory p.state.io.heap k program base p.ledger placed scheme.tool scheme.max p.state.cpu.isa good ready.fresh;
   mapped = mapped-unplaced p.state.memory p.state.io.heap k program base p.ledger placed ready.mapped;
+  units = units-unplaced scheme.tool scheme.max p.state.cpu.isa k (codes_of program base) p.ledger ready.units;
   inert = heap-unplaced p.state.memory p.state.io.heap k program base p.ledger placed ready.inert;
   small = ready.small;
   few = ready.few;

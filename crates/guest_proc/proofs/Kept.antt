@@ -1,5 +1,5 @@
 -- What stands ready stays fresh, whatever happens to the ledger.
-use Rattle.std.proofs.Common.{◌≡◌, ℕ, ◌+◌, ◌<◌, ◌⊎◌, Bool, true, false, List, length, Option, Some, None, refl, sym, ◌∙◌, ap, subst, inl, inr}
+use Rattle.std.proofs.Common.{◌≡◌, ℕ, ◌+◌, ◌<◌, ◌⊎◌, Bool, true, false, cond, List, length, Option, Some, None, refl, sym, ◌∙◌, ap, subst, inl, inr}
 use Rattle.std.specs.Prelude.{find, not, is_some, if◌then◌else◌}
 use Rattle.std.specs.Option.{option_or}
 use Rattle.std.specs.Ordering.{nat_cmp, eq_by_cmp}
@@ -16,11 +16,19 @@ use Rattle.engine.specs.Standing.{SameCode, IsStored}
 use Rattle.block_ledger.specs.Ledger.{Ledger, view, only, flushed, written, is_clear, begun, found, linked_by, counted, left_by, is_shared, is_private, is_live, has_some, source}
 use Rattle.block_ledger.specs.Traced.{built_in, range_of}
 use Rattle.block_ledger.proofs.Views.{only-views, writes-withdraw}
-use Rattle.block_ledger.proofs.Gets.{got-insert, tied}
-use Rattle.guest_proc.specs.Fresh.{AreFresh, AreMapped, block_in, extent}
+use Rattle.block_ledger.proofs.Gets.{got-insert, got-kept, tied}
+use Rattle.guest_proc.specs.Fresh.{AreFresh, AreMapped, AreOfUnits, SharesNoMore, block_in, extent}
 use Rattle.guest_proc.proofs.Put.{fresh-put, extent-put}
 
 -- ---- what stands ready
+
+kept_value : {X : Type 0} (b : Bool) (o : Option X) (x : X) → cond b o None ≡ Some x → o ≡ Some x
+kept_value true o x e = e
+kept_value false o x e = absurd (cc)
+
+shared_left : (e : Option ℕ) (led : Ledger) → (left_by e led).shared ≡ led.shared
+shared_left None led = refl
+shared_left (Some e) led = refl
 
 chosen : (b : Bool) (o : Option Parts) (block : Parts) → (if b then o else None) ≡ Some block → o ≡ Some block
 chosen true o block e = e
@@ -194,3 +202,38 @@ built-new block led gone =
     let not_shared : is_shared (counted led) block.address ≡ false = apart.0 in
     let not_private : is_private (counted led) block.address ≡ false = apart.1 in
     (blocks_linked led.left block.address (found block (counted led))).1 ∙ rw (not_shared, not_private) refl
+
+-- ---- the blocks of units
+
+pub shares-only : (stays : ℕ → Bool) (led : Ledger) → SharesNoMore led (only stays led)
+shares-only stays led a block is = kept_value (stays a) (fin.get led.shared a) block (sym (got-kept led.shared stays a) ∙ is)
+
+pub shares-left : (e : Option ℕ) (led last : Ledger) → last ≡ left_by e led → SharesNoMore led last
+shares-left e led last same a block is = let at : fin.get (left_by e led).shared a ≡ Some block = subst (λ (l : Ledger). fin.get l.shared a ≡ Some block) same is in ap (λ m. fin.get m a) (sym (shared_left e led)) ∙ at
+
+pub shares-written : (span : Span) (led last : Ledger) → last ≡ written (range_of span) (left_by None led) → SharesNoMore led last
+shares-written span led last same a block is =
+    shares-only (λ x. is_clear (range_of span) (view (left_by None led) x)) (left_by None led) a block (subst (λ (l : Ledger). fin.get l.shared a ≡ Some block) same is)
+
+shared_linked : (left : Option ℕ) (x : ℕ) (led : Ledger) → (linked_by left x led).shared ≡ led.shared
+shared_linked None x led = refl
+shared_linked (Some e) x led = elim (cases_Bool (is_some (fin.get led.links e))) [
+  | inl linked ↦ rw linked refl
+  | inr apart ↦ rw apart (elim (cases_Bool (is_live led (source e))) [ inl live ↦ rw live refl | inr gone ↦ rw gone refl ])
+]
+
+shared_found : (block : Parts) (led : Ledger) → (found block led).shared ≡ led.shared
+shared_found block led = elim (cases_Bool (is_shared led block.address)) [
+  | inl shared ↦ rw shared refl
+  | inr not_shared ↦ elim (cases_Bool (is_private led block.address)) [ inl private ↦ rw (not_shared, private) refl | inr new ↦ rw (not_shared, new) refl ]
+]
+
+pub shared-begun : (block : Parts) (led : Ledger) → (begun block led).shared ≡ led.shared
+shared-begun block led = shared_linked led.left block.address (found block (counted led)) ∙ shared_found block (counted led)
+
+-- the same units are attached
+pub units-kept : (tool : Tool) (max : ℕ) (isa : Isa) (led last : Ledger) → last.segments ≡ led.segments → SharesNoMore led last → AreOfUnits tool max isa led → AreOfUnits tool max isa last
+units-kept tool max isa led last same shares units = record {
+  have = λ i seg a is has. units.have i seg a (ap (λ s. fin.get s i) (sym same) ∙ is) has;
+  stand = λ i seg a block is has there. units.stand i seg a block (ap (λ s. fin.get s i) (sym same) ∙ is) has (shares a block there);
+}

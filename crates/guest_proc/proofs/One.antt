@@ -30,10 +30,10 @@ use Rattle.guest_proc.specs.declared.stop.Stop.{Stop}
 use Rattle.guest_proc.specs.declared.stop.Stop.TheVariants as stop
 use Rattle.guest_proc.specs.Begun.{AreMade, BlockBegins, HasBegun}
 use Rattle.guest_proc.specs.Called.{CallDone}
-use Rattle.guest_proc.specs.Fresh.{AreFresh, AreMapped, block_in}
+use Rattle.guest_proc.specs.Fresh.{AreFresh, AreMapped, AreOfUnits, SharesNoMore, block_in}
 use Rattle.guest_proc.specs.Kept.{IsReady, Keeps, StopsWell, image_at}
 use Rattle.guest_proc.specs.Process.{Advances, CallEnds, CallsSystem, IsOneBlock, LacksRow, Process, RanBlock, WantsMemory, process, stop_at, stop_of, stop_with, trace}
-use Rattle.guest_proc.proofs.Kept.{fresh-begun, mapped-segments, one-more, segments-begun}
+use Rattle.guest_proc.proofs.Kept.{fresh-begun, mapped-segments, one-more, segments-begun, shared-begun, units-kept}
 
 -- ---- the begin
 
@@ -43,6 +43,9 @@ begun-fresh tool max isa m a old new b fresh =
 
 begun_segments : (tool : Tool) (max : ℕ) (isa : Isa) (m : Memory) (a : ℕ) (old new : Ledger) → HasBegun tool max isa m a old new → new.segments ≡ old.segments
 begun_segments tool max isa m a old new b = ap (λ l. l.segments) b.ledger ∙ segments-begun b.block old
+
+begun_shares : (tool : Tool) (max : ℕ) (isa : Isa) (m : Memory) (a : ℕ) (led ready last : Ledger) → HasBegun tool max isa m a led ready → SharesNoMore ready last → SharesNoMore led last
+begun_shares tool max isa m a led ready last b shares x block is = ap (λ s. fin.get s x) (sym (ap (λ (l : Ledger). l.shared) b.ledger ∙ shared-begun b.block led)) ∙ shares x block is
 
 pub begun-mapped : (tool : Tool) (max : ℕ) (isa : Isa) (m : Memory) (a : ℕ) (old new : Ledger) → HasBegun tool max isa m a old new → AreMapped m old → AreMapped m new
 begun-mapped tool max isa m a old new b mapped = mapped-segments m old new (begun_segments tool max isa m a old new b) mapped
@@ -131,9 +134,9 @@ less_few a b c x y few less one = omega arith
 pub after-block : (scheme : Scheme) (cpu c : Cpu) (m after : Memory) (io : Io) (fuel rest : ℕ) (rows more : Rows) (led ready last : Ledger) (r : Ran) →
     IsReady scheme (process cpu m io fuel rows led) → scheme.tool ≡ rows.tool → stop_of scheme.pool (process cpu m io fuel rows led) ≡ None → HasBegun rows.tool scheme.max cpu.isa m cpu.pc led ready →
     ((s : Scheme) (i : Io) (l : Ledger) (block : Parts) → s.tool ≡ rows.tool → s.max ≡ scheme.max → view ready cpu.pc ≡ Some block → BlockBegins s block l ready → RanBlock s (process cpu m i fuel rows l) (process c after i rest more last) r) →
-    AreFresh rows.tool scheme.max c.isa after last → AreMapped after last → SameRegions m after → last.segments ≡ ready.segments → last.counts ≡ ready.counts → c.pc % 4 ≡ 0 → rest < fuel → ((key : ℕ) → count_at more.counts key + rest < 2 ^ 64) → more.tool ≡ rows.tool → c.isa ≡ cpu.isa →
+    AreFresh rows.tool scheme.max c.isa after last → AreMapped after last → SharesNoMore ready last → SameRegions m after → last.segments ≡ ready.segments → last.counts ≡ ready.counts → c.pc % 4 ≡ 0 → rest < fuel → ((key : ℕ) → count_at more.counts key + rest < 2 ^ 64) → more.tool ≡ rows.tool → c.isa ≡ cpu.isa →
     AfterBlock scheme (process cpu m io fuel rows led) (process c after io rest more last) r
-after-block scheme cpu c m after io fuel rest rows more led ready last r was tool none b ran fresh mapped regions segments counts even less small same_tool same_isa =
+after-block scheme cpu c m after io fuel rest rows more led ready last r was tool none b ran fresh mapped shares regions segments counts even less small same_tool same_isa =
     let begins = no-stop scheme.pool (process cpu m io fuel rows led) none in
     let one : last.counts.blocks ≡ led.counts.blocks + 1 = ap (λ k. k.blocks) counts ∙ ap (λ l. l.counts.blocks) b.ledger ∙ one-more b.block led in
     record {
@@ -143,6 +146,8 @@ after-block scheme cpu c m after io fuel rest rows more led ready last r was too
         aligned = even;
         fresh = subst (λ t. AreFresh t scheme.max c.isa after last) (sym same_tool) fresh;
         mapped = mapped;
+        units = subst (λ i. AreOfUnits more.tool scheme.max i last) (sym same_isa) (subst (λ t. AreOfUnits t scheme.max cpu.isa last) (tool ∙ sym same_tool)
+            (units-kept scheme.tool scheme.max cpu.isa led last (segments ∙ begun_segments rows.tool scheme.max cpu.isa m cpu.pc led ready b) (begun_shares rows.tool scheme.max cpu.isa m cpu.pc led ready last b shares) was.units));
         inert = heap-kept m after io.heap regions was.inert;
         small = small;
         few = less_few fuel rest 0 led.counts.blocks last.counts.blocks was.few less one;
@@ -173,6 +178,7 @@ after-call scheme old cpu c m after io now fuel rows led last s some b done = re
     aligned = done.aligned;
     fresh = done.fresh rows.tool scheme.max some b.ready.fresh;
     mapped = done.mapped b.ready.mapped;
+    units = subst (λ i. AreOfUnits rows.tool scheme.max i last) (sym done.isa) (units-kept rows.tool scheme.max cpu.isa led last done.segments done.shares b.ready.units);
     inert = done.inert;
     small = b.ready.small;
     few = subst (λ k. k.blocks + fuel < 2 ^ 64) (sym done.counts) b.ready.few;

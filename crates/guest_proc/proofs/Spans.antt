@@ -9,11 +9,11 @@ use Rattle.plain_machine.specs.Memory.{Memory, code_at}
 use Rattle.plain_machine.specs.Program.{Program, Segment, area_of, base_of}
 use Rattle.elf_map.specs.Program.{executes, span_at, spans_of, text_of, texts_of}
 use Rattle.elf_map.proofs.SpanLemmas.{text-start}
-use Rattle.block_book.specs.Clauses.{IsClear, region_of}
+use Rattle.block_book.specs.Clauses.{region_of}
 use Rattle.block_ledger.specs.Ledger.{Ledger}
 use Rattle.block_ledger.specs.Traced.{codes_at, codes_of}
 use Rattle.region_laws.specs.Standing.{AreThere}
-use Rattle.guest_proc.specs.Maps.{AreClear}
+use Rattle.guest_proc.specs.Maps.{AreClear, IsVacant}
 
 -- the code of a text, with its module at this base
 abbrev pub code_for : ℕ → Text → Code
@@ -44,9 +44,9 @@ there-at m [] i code are is = absurd (cc)
 there-at m (c ∷ codes) zero code are is = let same = same_Some c code is in (subst (λ (x : Code). 0 < length x.bytes) same are.0, subst (λ (x : Code). code_at m x.start ≡ Some x) same are.1)
 there-at m (c ∷ codes) (suc i) code are is = there-at m codes i code are.2 is
 
-pub clear-at : (led : Ledger) (codes : List Code) (i : ℕ) (code : Code) → AreClear codes led → slice_get codes i ≡ Some code → IsClear code led
+pub clear-at : (led : Ledger) (codes : List Code) (i : ℕ) (code : Code) → AreClear codes led → slice_get codes i ≡ Some code → IsVacant code led
 clear-at led [] i code are is = absurd (cc)
-clear-at led (c ∷ codes) zero code are is = subst (λ (x : Code). IsClear x led) (same_Some c code is) are.0
+clear-at led (c ∷ codes) zero code are is = subst (λ (x : Code). IsVacant x led) (same_Some c code is) are.0
 clear-at led (c ∷ codes) (suc i) code are is = clear-at led codes i code are.1 is
 
 -- the code of an executable segment

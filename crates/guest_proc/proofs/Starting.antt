@@ -33,6 +33,10 @@ starts_ready scheme cpu m io fuel rows led new even inert empty less = record {
   aligned = even;
   fresh = λ a block is. let none : view led a ≡ None = ap (λ l. view l a) new ∙ nothing-live a in let impossible = sym none ∙ is in absurd (cc);
   mapped = λ i seg is. let none : fin.get led.segments i ≡ None = ap (λ l. fin.get l.segments i) new ∙ got-empty {X = Segment} i in let impossible = sym none ∙ is in absurd (cc);
+  units = record {
+    have = λ i seg a is has. let none : fin.get led.segments i ≡ None = ap (λ l. fin.get l.segments i) new ∙ got-empty {X = Segment} i in let impossible = sym none ∙ is in absurd (cc);
+    stand = λ i seg a block is has there. let none : fin.get led.segments i ≡ None = ap (λ l. fin.get l.segments i) new ∙ got-empty {X = Segment} i in let impossible = sym none ∙ is in absurd (cc);
+  };
   inert = inert;
   small = λ key. small_start rows fuel key empty less;
   few = let none : led.counts.blocks ≡ 0 = ap (λ l. l.counts.blocks) new in omega arith;

@@ -12,7 +12,7 @@ use Rattle.region_laws.specs.Heap.{HeapIsData}
 use Rattle.region_laws.specs.Standing.{StandOn}
 use Rattle.guest_proc.specs.declared.stop.Stop.{Stop}
 use Rattle.guest_proc.specs.declared.stop.Stop.TheVariants as stop
-use Rattle.guest_proc.specs.Fresh.{AreFresh, AreMapped}
+use Rattle.guest_proc.specs.Fresh.{AreFresh, AreMapped, SharesNoMore}
 use Rattle.guest_proc.specs.Kept.{StopsWell}
 use Rattle.guest_proc.specs.Process.{Asks, CallEnds, Process}
 
@@ -40,6 +40,7 @@ pub record CallDone (old new : Process) (s : Option Stop) : Type 0 where
   pub ends : (scheme : Scheme) (p : Process) → Asks scheme p old → CallEnds scheme p new s
   pub fresh : (tool : Tool) (max : ℕ) → 0 < max → AreFresh tool max old.state.cpu.isa old.state.memory old.ledger → AreFresh tool max new.state.cpu.isa new.state.memory new.ledger
   pub mapped : AreMapped old.state.memory old.ledger → AreMapped new.state.memory new.ledger
+  pub shares : SharesNoMore old.ledger new.ledger
   pub inert : HeapIsData new.state.io.heap new.state.memory
   pub aligned : new.state.cpu.pc % 4 ≡ 0
   pub segments : new.ledger.segments ≡ old.ledger.segments

@@ -11,7 +11,7 @@ use Rattle.region_laws.specs.Heap.{HeapIsData}
 use Rattle.region_laws.specs.Standing.{StandOn}
 use Rattle.guest_proc.specs.declared.stop.Stop.{Stop}
 use Rattle.guest_proc.specs.declared.stop.Stop.TheVariants as stop
-use Rattle.guest_proc.specs.Fresh.{AreFresh, AreMapped}
+use Rattle.guest_proc.specs.Fresh.{AreFresh, AreMapped, AreOfUnits}
 use Rattle.guest_proc.specs.declared.running.Running.{Running}
 use Rattle.guest_proc.specs.declared.running.Limits.{Limits}
 use Rattle.guest_proc.specs.Process.{Process, process}
@@ -28,6 +28,8 @@ pub record IsReady (scheme : Scheme) (p : Process) : Type 0 where
   -- each live fragment is the one that would be built
   pub fresh : AreFresh scheme.tool scheme.max p.state.cpu.isa p.state.memory p.ledger
   pub mapped : AreMapped p.state.memory p.ledger
+  -- a live address of an attached unit which was not withdrawn has the unit's block
+  pub units : AreOfUnits scheme.tool scheme.max p.state.cpu.isa p.ledger
   -- the heap's region holds no code
   pub inert : HeapIsData p.state.io.heap p.state.memory
   -- no count comes to its type's end

@@ -53,10 +53,15 @@ abbrev pub Enters : Program → ℕ → ℕ → ℕ → Process → Process → 
 Enters program base k f old new true = IsEntered program base k f old new
 Enters program base k f old new false = CannotEnter program base old.state.memory × (new ≡ old)
 
--- no live block begins in any of these codes
+-- no live block begins in this code, and no segment is attached where it starts
+pub record IsVacant (code : Code) (led : Ledger) : Type 0 where
+  pub clear : IsClear code led
+  pub none : (i : ℕ) (seg : Attached) → fin.get led.segments i ≡ Some seg → seg.image.start ≡ code.start → ⊥
+
+-- the same of all of these
 abbrev pub AreClear : List Code → Ledger → Type 0
 AreClear [] led = Unit {0}
-AreClear (c ∷ cs) led = IsClear c led × AreClear cs led
+AreClear (c ∷ cs) led = IsVacant c led × AreClear cs led
 
 -- a program was placed, or refused with the memory as it was
 abbrev pub Placing : Result Memory MemErr → Memory → Memory → Bool → Type 0

@@ -7,7 +7,7 @@ ghost use Rattle.engine.specs.Standing.{SameRegions};
 ghost use Rattle.block_ledger.specs.Ledger.{Ledger, view};
 ghost use Rattle.block_ledger.specs.Traced.{Scheme, direct};
 ghost use Rattle.guest_proc.specs.Begun.{BlockBegins};
-ghost use Rattle.guest_proc.specs.Fresh.{AreFresh, AreMapped};
+ghost use Rattle.guest_proc.specs.Fresh.{AreFresh, AreMapped, SharesNoMore};
 ghost use Rattle.guest_proc.specs.Process.{LacksRow, LeavesBy, RanBlock, process};
 
 use crate::stop::Ran;
@@ -44,6 +44,7 @@ pub fn run_ready<B: Book>(
     ensures leaves { IfOk result (λ ran. (io : Io) → LeavesBy (process cpu.old mem.old io fuel.old report.old (B.ledger book.old)) ran) }
     ensures fresh { IfOk result (λ ran. AreFresh report.old.tool max cpu.new.isa mem.new (B.ledger book.new)) }
     ensures mapped { IfOk result (λ ran. AreMapped mem.new (B.ledger book.new)) }
+    ensures shares { IfOk result (λ ran. SharesNoMore (B.ledger book.old) (B.ledger book.new)) }
     ensures regions { SameRegions mem.old mem.new }
     ensures segments { IfOk result (λ ran. (B.ledger book.new).segments ≡ (B.ledger book.old).segments) }
     ensures counts { IfOk result (λ ran. (B.ledger book.new).counts ≡ (B.ledger book.old).counts) }

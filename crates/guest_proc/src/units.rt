@@ -7,10 +7,10 @@ ghost use Rattle.plain_machine.specs.Memory.{code_at};
 ghost use Rattle.fragment.specs.Build.{IsFresh};
 ghost use Rattle.unit_set.specs.Held.{IsFreshFor, addresses};
 ghost use Rattle.unit_set.specs.Sets.{IsRising};
-ghost use Rattle.block_book.specs.Clauses.{IsClear, blocks_of};
+ghost use Rattle.block_book.specs.Clauses.{blocks_of};
 ghost use Rattle.block_ledger.specs.Ledger.{Segment, attached, candidates, flushed, offered, segment_of};
 ghost use Rattle.guest_proc.specs.Kept.{process_of, scheme_of};
-ghost use Rattle.guest_proc.specs.Maps.{put_to};
+ghost use Rattle.guest_proc.specs.Maps.{IsVacant, put_to};
 
 use crate::process::Proc;
 use block_book::Book;
@@ -21,7 +21,7 @@ use std::sync::Arc;
 use unit_set::Unit;
 
 impl<B: Book> Proc<B> {
-    /// Attaches a unit to the executable segment `seg` of a module, whose image is what memory has there.
+    /// Attaches a unit to the executable segment `seg` of a module, which is not attached; its image is what memory has there.
     pub fn attach(&mut self, module: u32, seg: u8, unit: &Arc<Unit>) -> Result<(), AllocError>
         requires few { «module» < 1073741824 }
         requires seg { seg < 4 }
@@ -30,7 +30,7 @@ impl<B: Book> Proc<B> {
         requires isa { (arc_value unit.now).slot.isa ≡ self.old.at.cpu.isa }
         requires tool { (arc_value unit.now).slot.tool ≡ self.old.at.report.tool }
         requires max { (arc_value unit.now).slot.max ≡ self.old.limits.max }
-        requires clear { IsClear (arc_value unit.now).image (B.ledger self.old.book) }
+        requires clear { IsVacant (arc_value unit.now).image (B.ledger self.old.book) }
         ensures attached { OnOk result (process_of self.new.at (B.ledger self.new.book) ≡ put_to (process_of self.old.at (B.ledger self.old.book)) (process_of self.old.at (B.ledger self.old.book)).state
             (attached (segment_of «module» seg) (arc_value unit.now).image (blocks_of (arc_value unit.now).frags) (B.ledger self.old.book))) }
         ensures entered { self.new.entered ≡ self.old.entered }

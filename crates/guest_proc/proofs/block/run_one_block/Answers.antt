@@ -26,7 +26,7 @@ returns-in-On-clause-ran g c =
     let b : HasBegun c.args.at.now.report.tool c.args.limits.max c.args.at.now.cpu.isa c.args.at.now.mem c.args.at.now.cpu.pc (g.B.Book.ledger c.args.book.now) (g.B.Book.ledger c.begin.new.book) = begun-then c.tool-tool.result c.args.at.now.report.tool c.args.limits.max c.args.at.now.cpu.isa c.args.at.now.mem c.args.at.now.cpu.pc (g.B.Book.ledger c.args.book.now) (g.B.Book.ledger c.begin.new.book) c.in_ok-before.before c.tool-tool.ensures c.in_default.is c.in_ok-before.ensures.begun in
     let after : AfterBlock (scheme_of c.args.at.now c.args.limits) (process_of c.args.at.now (g.B.Book.ledger c.args.book.now)) (process c.run_ready.new.cpu c.run_ready.new.mem c.args.at.now.io c.run_ready.new.fuel c.run_ready.new.report (g.B.Book.ledger c.run_ready.new.book)) c.in_ok-run_ready.field-0 =
     after-block (scheme_of c.args.at.now c.args.limits) c.args.at.now.cpu c.run_ready.new.cpu c.args.at.now.mem c.run_ready.new.mem c.args.at.now.io c.args.at.now.fuel c.run_ready.new.fuel c.args.at.now.report c.run_ready.new.report (g.B.Book.ledger c.args.book.now) (g.B.Book.ledger c.begin.new.book) (g.B.Book.ledger c.run_ready.new.book) c.in_ok-run_ready.field-0 c.requires.ready refl none b
-    (λ s i l f. c.in_ok-run_ready.ensures.ran s i l f) c.in_ok-run_ready.ensures.fresh c.in_ok-run_ready.ensures.mapped c.in_ok-run_ready.ensures.regions c.in_ok-run_ready.ensures.segments c.in_ok-run_ready.ensures.counts c.in_ok-run_ready.ensures.aligned c.in_ok-run_ready.ensures.less c.in_ok-run_ready.ensures.small c.in_ok-run_ready.ensures.tool c.in_ok-run_ready.ensures.isa in
+    (λ s i l f. c.in_ok-run_ready.ensures.ran s i l f) c.in_ok-run_ready.ensures.fresh c.in_ok-run_ready.ensures.mapped c.in_ok-run_ready.ensures.shares c.in_ok-run_ready.ensures.regions c.in_ok-run_ready.ensures.segments c.in_ok-run_ready.ensures.counts c.in_ok-run_ready.ensures.aligned c.in_ok-run_ready.ensures.less c.in_ok-run_ready.ensures.small c.in_ok-run_ready.ensures.tool c.in_ok-run_ready.ensures.isa in
     let so : AfterBlock (scheme_of c.args.at.now c.args.limits) (process_of c.args.at.now (g.B.Book.ledger c.args.book.now)) (process c.run_ready.new.cpu c.run_ready.new.mem c.args.at.now.io c.run_ready.new.fuel c.run_ready.new.report (g.B.Book.ledger c.run_ready.new.book)) (ran.On) = subst (λ r. AfterBlock (scheme_of c.args.at.now c.args.limits) (process_of c.args.at.now (g.B.Book.ledger c.args.book.now)) (process c.run_ready.new.cpu c.run_ready.new.mem c.args.at.now.io c.run_ready.new.fuel c.run_ready.new.report (g.B.Book.ledger c.run_ready.new.book)) r) c.in-On.is after in
     (so.one, so.came)
 
@@ -36,7 +36,7 @@ returns-in-On-clause-ready g c =
     let b : HasBegun c.args.at.now.report.tool c.args.limits.max c.args.at.now.cpu.isa c.args.at.now.mem c.args.at.now.cpu.pc (g.B.Book.ledger c.args.book.now) (g.B.Book.ledger c.begin.new.book) = begun-then c.tool-tool.result c.args.at.now.report.tool c.args.limits.max c.args.at.now.cpu.isa c.args.at.now.mem c.args.at.now.cpu.pc (g.B.Book.ledger c.args.book.now) (g.B.Book.ledger c.begin.new.book) c.in_ok-before.before c.tool-tool.ensures c.in_default.is c.in_ok-before.ensures.begun in
     let after : AfterBlock (scheme_of c.args.at.now c.args.limits) (process_of c.args.at.now (g.B.Book.ledger c.args.book.now)) (process c.run_ready.new.cpu c.run_ready.new.mem c.args.at.now.io c.run_ready.new.fuel c.run_ready.new.report (g.B.Book.ledger c.run_ready.new.book)) c.in_ok-run_ready.field-0 =
     after-block (scheme_of c.args.at.now c.args.limits) c.args.at.now.cpu c.run_ready.new.cpu c.args.at.now.mem c.run_ready.new.mem c.args.at.now.io c.args.at.now.fuel c.run_ready.new.fuel c.args.at.now.report c.run_ready.new.report (g.B.Book.ledger c.args.book.now) (g.B.Book.ledger c.begin.new.book) (g.B.Book.ledger c.run_ready.new.book) c.in_ok-run_ready.field-0 c.requires.ready refl none b
-    (λ s i l f. c.in_ok-run_ready.ensures.ran s i l f) c.in_ok-run_ready.ensures.fresh c.in_ok-run_ready.ensures.mapped c.in_ok-run_ready.ensures.regions c.in_ok-run_ready.ensures.segments c.in_ok-run_ready.ensures.counts c.in_ok-run_ready.ensures.aligned c.in_ok-run_ready.ensures.less c.in_ok-run_ready.ensures.small c.in_ok-run_ready.ensures.tool c.in_ok-run_ready.ensures.isa in
+    (λ s i l f. c.in_ok-run_ready.ensures.ran s i l f) c.in_ok-run_ready.ensures.fresh c.in_ok-run_ready.ensures.mapped c.in_ok-run_ready.ensures.shares c.in_ok-run_ready.ensures.regions c.in_ok-run_ready.ensures.segments c.in_ok-run_ready.ensures.counts c.in_ok-run_ready.ensures.aligned c.in_ok-run_ready.ensures.less c.in_ok-run_ready.ensures.small c.in_ok-run_ready.ensures.tool c.in_ok-run_ready.ensures.isa in
     after.ready
 
 pub returns-in-Ended-clause-ran : goal.returns-in-Ended-clause-ran
@@ -45,7 +45,7 @@ returns-in-Ended-clause-ran g c =
     let b : HasBegun c.args.at.now.report.tool c.args.limits.max c.args.at.now.cpu.isa c.args.at.now.mem c.args.at.now.cpu.pc (g.B.Book.ledger c.args.book.now) (g.B.Book.ledger c.begin.new.book) = begun-then c.tool-tool.result c.args.at.now.report.tool c.args.limits.max c.args.at.now.cpu.isa c.args.at.now.mem c.args.at.now.cpu.pc (g.B.Book.ledger c.args.book.now) (g.B.Book.ledger c.begin.new.book) c.in_ok-before.before c.tool-tool.ensures c.in_default.is c.in_ok-before.ensures.begun in
     let after : AfterBlock (scheme_of c.args.at.now c.args.limits) (process_of c.args.at.now (g.B.Book.ledger c.args.book.now)) (process c.run_ready.new.cpu c.run_ready.new.mem c.args.at.now.io c.run_ready.new.fuel c.run_ready.new.report (g.B.Book.ledger c.run_ready.new.book)) c.in_ok-run_ready.field-0 =
     after-block (scheme_of c.args.at.now c.args.limits) c.args.at.now.cpu c.run_ready.new.cpu c.args.at.now.mem c.run_ready.new.mem c.args.at.now.io c.args.at.now.fuel c.run_ready.new.fuel c.args.at.now.report c.run_ready.new.report (g.B.Book.ledger c.args.book.now) (g.B.Book.ledger c.begin.new.book) (g.B.Book.ledger c.run_ready.new.book) c.in_ok-run_ready.field-0 c.requires.ready refl none b
-    (λ s i l f. c.in_ok-run_ready.ensures.ran s i l f) c.in_ok-run_ready.ensures.fresh c.in_ok-run_ready.ensures.mapped c.in_ok-run_ready.ensures.regions c.in_ok-run_ready.ensures.segments c.in_ok-run_ready.ensures.counts c.in_ok-run_ready.ensures.aligned c.in_ok-run_ready.ensures.less c.in_ok-run_ready.ensures.small c.in_ok-run_ready.ensures.tool c.in_ok-run_ready.ensures.isa in
+    (λ s i l f. c.in_ok-run_ready.ensures.ran s i l f) c.in_ok-run_ready.ensures.fresh c.in_ok-run_ready.ensures.mapped c.in_ok-run_ready.ensures.shares c.in_ok-run_ready.ensures.regions c.in_ok-run_ready.ensures.segments c.in_ok-run_ready.ensures.counts c.in_ok-run_ready.ensures.aligned c.in_ok-run_ready.ensures.less c.in_ok-run_ready.ensures.small c.in_ok-run_ready.ensures.tool c.in_ok-run_ready.ensures.isa in
     let so : AfterBlock (scheme_of c.args.at.now c.args.limits) (process_of c.args.at.now (g.B.Book.ledger c.args.book.now)) (process c.run_ready.new.cpu c.run_ready.new.mem c.args.at.now.io c.run_ready.new.fuel c.run_ready.new.report (g.B.Book.ledger c.run_ready.new.book)) (ran.Ended c.in-Ended.end) = subst (λ r. AfterBlock (scheme_of c.args.at.now c.args.limits) (process_of c.args.at.now (g.B.Book.ledger c.args.book.now)) (process c.run_ready.new.cpu c.run_ready.new.mem c.args.at.now.io c.run_ready.new.fuel c.run_ready.new.report (g.B.Book.ledger c.run_ready.new.book)) r) c.in-Ended.is after in
     inr (so.one, so.came)
 
@@ -55,7 +55,7 @@ returns-in-Ended-clause-ready g c =
     let b : HasBegun c.args.at.now.report.tool c.args.limits.max c.args.at.now.cpu.isa c.args.at.now.mem c.args.at.now.cpu.pc (g.B.Book.ledger c.args.book.now) (g.B.Book.ledger c.begin.new.book) = begun-then c.tool-tool.result c.args.at.now.report.tool c.args.limits.max c.args.at.now.cpu.isa c.args.at.now.mem c.args.at.now.cpu.pc (g.B.Book.ledger c.args.book.now) (g.B.Book.ledger c.begin.new.book) c.in_ok-before.before c.tool-tool.ensures c.in_default.is c.in_ok-before.ensures.begun in
     let after : AfterBlock (scheme_of c.args.at.now c.args.limits) (process_of c.args.at.now (g.B.Book.ledger c.args.book.now)) (process c.run_ready.new.cpu c.run_ready.new.mem c.args.at.now.io c.run_ready.new.fuel c.run_ready.new.report (g.B.Book.ledger c.run_ready.new.book)) c.in_ok-run_ready.field-0 =
     after-block (scheme_of c.args.at.now c.args.limits) c.args.at.now.cpu c.run_ready.new.cpu c.args.at.now.mem c.run_ready.new.mem c.args.at.now.io c.args.at.now.fuel c.run_ready.new.fuel c.args.at.now.report c.run_ready.new.report (g.B.Book.ledger c.args.book.now) (g.B.Book.ledger c.begin.new.book) (g.B.Book.ledger c.run_ready.new.book) c.in_ok-run_ready.field-0 c.requires.ready refl none b
-    (λ s i l f. c.in_ok-run_ready.ensures.ran s i l f) c.in_ok-run_ready.ensures.fresh c.in_ok-run_ready.ensures.mapped c.in_ok-run_ready.ensures.regions c.in_ok-run_ready.ensures.segments c.in_ok-run_ready.ensures.counts c.in_ok-run_ready.ensures.aligned c.in_ok-run_ready.ensures.less c.in_ok-run_ready.ensures.small c.in_ok-run_ready.ensures.tool c.in_ok-run_ready.ensures.isa in
+    (λ s i l f. c.in_ok-run_ready.ensures.ran s i l f) c.in_ok-run_ready.ensures.fresh c.in_ok-run_ready.ensures.mapped c.in_ok-run_ready.ensures.shares c.in_ok-run_ready.ensures.regions c.in_ok-run_ready.ensures.segments c.in_ok-run_ready.ensures.counts c.in_ok-run_ready.ensures.aligned c.in_ok-run_ready.ensures.less c.in_ok-run_ready.ensures.small c.in_ok-run_ready.ensures.tool c.in_ok-run_ready.ensures.isa in
     after.ready
 
 pub returns-in-Asks-clause-ran : goal.returns-in-Asks-clause-ran
@@ -64,7 +64,7 @@ returns-in-Asks-clause-ran g c =
     let b : HasBegun c.args.at.now.report.tool c.args.limits.max c.args.at.now.cpu.isa c.args.at.now.mem c.args.at.now.cpu.pc (g.B.Book.ledger c.args.book.now) (g.B.Book.ledger c.begin.new.book) = begun-then c.tool-tool.result c.args.at.now.report.tool c.args.limits.max c.args.at.now.cpu.isa c.args.at.now.mem c.args.at.now.cpu.pc (g.B.Book.ledger c.args.book.now) (g.B.Book.ledger c.begin.new.book) c.in_ok-before.before c.tool-tool.ensures c.in_default.is c.in_ok-before.ensures.begun in
     let after : AfterBlock (scheme_of c.args.at.now c.args.limits) (process_of c.args.at.now (g.B.Book.ledger c.args.book.now)) (process c.run_ready.new.cpu c.run_ready.new.mem c.args.at.now.io c.run_ready.new.fuel c.run_ready.new.report (g.B.Book.ledger c.run_ready.new.book)) c.in_ok-run_ready.field-0 =
     after-block (scheme_of c.args.at.now c.args.limits) c.args.at.now.cpu c.run_ready.new.cpu c.args.at.now.mem c.run_ready.new.mem c.args.at.now.io c.args.at.now.fuel c.run_ready.new.fuel c.args.at.now.report c.run_ready.new.report (g.B.Book.ledger c.args.book.now) (g.B.Book.ledger c.begin.new.book) (g.B.Book.ledger c.run_ready.new.book) c.in_ok-run_ready.field-0 c.requires.ready refl none b
-    (λ s i l f. c.in_ok-run_ready.ensures.ran s i l f) c.in_ok-run_ready.ensures.fresh c.in_ok-run_ready.ensures.mapped c.in_ok-run_ready.ensures.regions c.in_ok-run_ready.ensures.segments c.in_ok-run_ready.ensures.counts c.in_ok-run_ready.ensures.aligned c.in_ok-run_ready.ensures.less c.in_ok-run_ready.ensures.small c.in_ok-run_ready.ensures.tool c.in_ok-run_ready.ensures.isa in
+    (λ s i l f. c.in_ok-run_ready.ensures.ran s i l f) c.in_ok-run_ready.ensures.fresh c.in_ok-run_ready.ensures.mapped c.in_ok-run_ready.ensures.shares c.in_ok-run_ready.ensures.regions c.in_ok-run_ready.ensures.segments c.in_ok-run_ready.ensures.counts c.in_ok-run_ready.ensures.aligned c.in_ok-run_ready.ensures.less c.in_ok-run_ready.ensures.small c.in_ok-run_ready.ensures.tool c.in_ok-run_ready.ensures.isa in
     let so : AfterBlock (scheme_of c.args.at.now c.args.limits) (process_of c.args.at.now (g.B.Book.ledger c.args.book.now)) (process c.run_ready.new.cpu c.run_ready.new.mem c.args.at.now.io c.run_ready.new.fuel c.run_ready.new.report (g.B.Book.ledger c.run_ready.new.book)) (ran.Asks) = subst (λ r. AfterBlock (scheme_of c.args.at.now c.args.limits) (process_of c.args.at.now (g.B.Book.ledger c.args.book.now)) (process c.run_ready.new.cpu c.run_ready.new.mem c.args.at.now.io c.run_ready.new.fuel c.run_ready.new.report (g.B.Book.ledger c.run_ready.new.book)) r) c.in-Asks.is after in
     let done : IfOk c.call.result (λ stop. AfterCall (scheme_of c.args.at.now c.args.limits) (process_of c.args.at.now (g.B.Book.ledger c.args.book.now)) (process c.call.new.cpu c.call.new.mem c.call.new.io c.run_ready.new.fuel c.run_ready.new.report (g.B.Book.ledger c.call.new.book)) stop) = if_ok c.call.result _ _ (λ stop d. after-call (scheme_of c.args.at.now c.args.limits) (process_of c.args.at.now (g.B.Book.ledger c.args.book.now)) c.run_ready.new.cpu c.call.new.cpu c.run_ready.new.mem c.call.new.mem c.args.at.now.io c.call.new.io c.run_ready.new.fuel c.run_ready.new.report (g.B.Book.ledger c.run_ready.new.book) (g.B.Book.ledger c.call.new.book) stop c.args.limits.some so (d c.run_ready.new.fuel c.run_ready.new.report)) c.call.ensures.done in
     if_ok c.call.result _ _ (λ stop d. call-advances (scheme_of c.args.at.now c.args.limits) (process_of c.args.at.now (g.B.Book.ledger c.args.book.now)) (process c.call.new.cpu c.call.new.mem c.call.new.io c.run_ready.new.fuel c.run_ready.new.report (g.B.Book.ledger c.call.new.book)) stop d) done
@@ -75,7 +75,7 @@ returns-in-Asks-clause-ready g c =
     let b : HasBegun c.args.at.now.report.tool c.args.limits.max c.args.at.now.cpu.isa c.args.at.now.mem c.args.at.now.cpu.pc (g.B.Book.ledger c.args.book.now) (g.B.Book.ledger c.begin.new.book) = begun-then c.tool-tool.result c.args.at.now.report.tool c.args.limits.max c.args.at.now.cpu.isa c.args.at.now.mem c.args.at.now.cpu.pc (g.B.Book.ledger c.args.book.now) (g.B.Book.ledger c.begin.new.book) c.in_ok-before.before c.tool-tool.ensures c.in_default.is c.in_ok-before.ensures.begun in
     let after : AfterBlock (scheme_of c.args.at.now c.args.limits) (process_of c.args.at.now (g.B.Book.ledger c.args.book.now)) (process c.run_ready.new.cpu c.run_ready.new.mem c.args.at.now.io c.run_ready.new.fuel c.run_ready.new.report (g.B.Book.ledger c.run_ready.new.book)) c.in_ok-run_ready.field-0 =
     after-block (scheme_of c.args.at.now c.args.limits) c.args.at.now.cpu c.run_ready.new.cpu c.args.at.now.mem c.run_ready.new.mem c.args.at.now.io c.args.at.now.fuel c.run_ready.new.fuel c.args.at.now.report c.run_ready.new.report (g.B.Book.ledger c.args.book.now) (g.B.Book.ledger c.begin.new.book) (g.B.Book.ledger c.run_ready.new.book) c.in_ok-run_ready.field-0 c.requires.ready refl none b
-    (λ s i l f. c.in_ok-run_ready.ensures.ran s i l f) c.in_ok-run_ready.ensures.fresh c.in_ok-run_ready.ensures.mapped c.in_ok-run_ready.ensures.regions c.in_ok-run_ready.ensures.segments c.in_ok-run_ready.ensures.counts c.in_ok-run_ready.ensures.aligned c.in_ok-run_ready.ensures.less c.in_ok-run_ready.ensures.small c.in_ok-run_ready.ensures.tool c.in_ok-run_ready.ensures.isa in
+    (λ s i l f. c.in_ok-run_ready.ensures.ran s i l f) c.in_ok-run_ready.ensures.fresh c.in_ok-run_ready.ensures.mapped c.in_ok-run_ready.ensures.shares c.in_ok-run_ready.ensures.regions c.in_ok-run_ready.ensures.segments c.in_ok-run_ready.ensures.counts c.in_ok-run_ready.ensures.aligned c.in_ok-run_ready.ensures.less c.in_ok-run_ready.ensures.small c.in_ok-run_ready.ensures.tool c.in_ok-run_ready.ensures.isa in
     let so : AfterBlock (scheme_of c.args.at.now c.args.limits) (process_of c.args.at.now (g.B.Book.ledger c.args.book.now)) (process c.run_ready.new.cpu c.run_ready.new.mem c.args.at.now.io c.run_ready.new.fuel c.run_ready.new.report (g.B.Book.ledger c.run_ready.new.book)) (ran.Asks) = subst (λ r. AfterBlock (scheme_of c.args.at.now c.args.limits) (process_of c.args.at.now (g.B.Book.ledger c.args.book.now)) (process c.run_ready.new.cpu c.run_ready.new.mem c.args.at.now.io c.run_ready.new.fuel c.run_ready.new.report (g.B.Book.ledger c.run_ready.new.book)) r) c.in-Asks.is after in
     let done : IfOk c.call.result (λ stop. AfterCall (scheme_of c.args.at.now c.args.limits) (process_of c.args.at.now (g.B.Book.ledger c.args.book.now)) (process c.call.new.cpu c.call.new.mem c.call.new.io c.run_ready.new.fuel c.run_ready.new.report (g.B.Book.ledger c.call.new.book)) stop) = if_ok c.call.result _ _ (λ stop d. after-call (scheme_of c.args.at.now c.args.limits) (process_of c.args.at.now (g.B.Book.ledger c.args.book.now)) c.run_ready.new.cpu c.call.new.cpu c.run_ready.new.mem c.call.new.mem c.args.at.now.io c.call.new.io c.run_ready.new.fuel c.run_ready.new.report (g.B.Book.ledger c.run_ready.new.book) (g.B.Book.ledger c.call.new.book) stop c.args.limits.some so (d c.run_ready.new.fuel c.run_ready.new.report)) c.call.ensures.done in
     if_then c.call.result _ _ (λ stop d. d.ready) done
@@ -86,7 +86,7 @@ returns-in-Asks-clause-keeps g c =
     let b : HasBegun c.args.at.now.report.tool c.args.limits.max c.args.at.now.cpu.isa c.args.at.now.mem c.args.at.now.cpu.pc (g.B.Book.ledger c.args.book.now) (g.B.Book.ledger c.begin.new.book) = begun-then c.tool-tool.result c.args.at.now.report.tool c.args.limits.max c.args.at.now.cpu.isa c.args.at.now.mem c.args.at.now.cpu.pc (g.B.Book.ledger c.args.book.now) (g.B.Book.ledger c.begin.new.book) c.in_ok-before.before c.tool-tool.ensures c.in_default.is c.in_ok-before.ensures.begun in
     let after : AfterBlock (scheme_of c.args.at.now c.args.limits) (process_of c.args.at.now (g.B.Book.ledger c.args.book.now)) (process c.run_ready.new.cpu c.run_ready.new.mem c.args.at.now.io c.run_ready.new.fuel c.run_ready.new.report (g.B.Book.ledger c.run_ready.new.book)) c.in_ok-run_ready.field-0 =
     after-block (scheme_of c.args.at.now c.args.limits) c.args.at.now.cpu c.run_ready.new.cpu c.args.at.now.mem c.run_ready.new.mem c.args.at.now.io c.args.at.now.fuel c.run_ready.new.fuel c.args.at.now.report c.run_ready.new.report (g.B.Book.ledger c.args.book.now) (g.B.Book.ledger c.begin.new.book) (g.B.Book.ledger c.run_ready.new.book) c.in_ok-run_ready.field-0 c.requires.ready refl none b
-    (λ s i l f. c.in_ok-run_ready.ensures.ran s i l f) c.in_ok-run_ready.ensures.fresh c.in_ok-run_ready.ensures.mapped c.in_ok-run_ready.ensures.regions c.in_ok-run_ready.ensures.segments c.in_ok-run_ready.ensures.counts c.in_ok-run_ready.ensures.aligned c.in_ok-run_ready.ensures.less c.in_ok-run_ready.ensures.small c.in_ok-run_ready.ensures.tool c.in_ok-run_ready.ensures.isa in
+    (λ s i l f. c.in_ok-run_ready.ensures.ran s i l f) c.in_ok-run_ready.ensures.fresh c.in_ok-run_ready.ensures.mapped c.in_ok-run_ready.ensures.shares c.in_ok-run_ready.ensures.regions c.in_ok-run_ready.ensures.segments c.in_ok-run_ready.ensures.counts c.in_ok-run_ready.ensures.aligned c.in_ok-run_ready.ensures.less c.in_ok-run_ready.ensures.small c.in_ok-run_ready.ensures.tool c.in_ok-run_ready.ensures.isa in
     let so : AfterBlock (scheme_of c.args.at.now c.args.limits) (process_of c.args.at.now (g.B.Book.ledger c.args.book.now)) (process c.run_ready.new.cpu c.run_ready.new.mem c.args.at.now.io c.run_ready.new.fuel c.run_ready.new.report (g.B.Book.ledger c.run_ready.new.book)) (ran.Asks) = subst (λ r. AfterBlock (scheme_of c.args.at.now c.args.limits) (process_of c.args.at.now (g.B.Book.ledger c.args.book.now)) (process c.run_ready.new.cpu c.run_ready.new.mem c.args.at.now.io c.run_ready.new.fuel c.run_ready.new.report (g.B.Book.ledger c.run_ready.new.book)) r) c.in-Asks.is after in
     let done : IfOk c.call.result (λ stop. AfterCall (scheme_of c.args.at.now c.args.limits) (process_of c.args.at.now (g.B.Book.ledger c.args.book.now)) (process c.call.new.cpu c.call.new.mem c.call.new.io c.run_ready.new.fuel c.run_ready.new.report (g.B.Book.ledger c.call.new.book)) stop) = if_ok c.call.result _ _ (λ stop d. after-call (scheme_of c.args.at.now c.args.limits) (process_of c.args.at.now (g.B.Book.ledger c.args.book.now)) c.run_ready.new.cpu c.call.new.cpu c.run_ready.new.mem c.call.new.mem c.args.at.now.io c.call.new.io c.run_ready.new.fuel c.run_ready.new.report (g.B.Book.ledger c.run_ready.new.book) (g.B.Book.ledger c.call.new.book) stop c.args.limits.some so (d c.run_ready.new.fuel c.run_ready.new.report)) c.call.ensures.done in
     if_then c.call.result _ _ (λ stop d. d.keeps) done
@@ -97,7 +97,7 @@ returns-in-Asks-clause-asks g c =
     let b : HasBegun c.args.at.now.report.tool c.args.limits.max c.args.at.now.cpu.isa c.args.at.now.mem c.args.at.now.cpu.pc (g.B.Book.ledger c.args.book.now) (g.B.Book.ledger c.begin.new.book) = begun-then c.tool-tool.result c.args.at.now.report.tool c.args.limits.max c.args.at.now.cpu.isa c.args.at.now.mem c.args.at.now.cpu.pc (g.B.Book.ledger c.args.book.now) (g.B.Book.ledger c.begin.new.book) c.in_ok-before.before c.tool-tool.ensures c.in_default.is c.in_ok-before.ensures.begun in
     let after : AfterBlock (scheme_of c.args.at.now c.args.limits) (process_of c.args.at.now (g.B.Book.ledger c.args.book.now)) (process c.run_ready.new.cpu c.run_ready.new.mem c.args.at.now.io c.run_ready.new.fuel c.run_ready.new.report (g.B.Book.ledger c.run_ready.new.book)) c.in_ok-run_ready.field-0 =
     after-block (scheme_of c.args.at.now c.args.limits) c.args.at.now.cpu c.run_ready.new.cpu c.args.at.now.mem c.run_ready.new.mem c.args.at.now.io c.args.at.now.fuel c.run_ready.new.fuel c.args.at.now.report c.run_ready.new.report (g.B.Book.ledger c.args.book.now) (g.B.Book.ledger c.begin.new.book) (g.B.Book.ledger c.run_ready.new.book) c.in_ok-run_ready.field-0 c.requires.ready refl none b
-    (λ s i l f. c.in_ok-run_ready.ensures.ran s i l f) c.in_ok-run_ready.ensures.fresh c.in_ok-run_ready.ensures.mapped c.in_ok-run_ready.ensures.regions c.in_ok-run_ready.ensures.segments c.in_ok-run_ready.ensures.counts c.in_ok-run_ready.ensures.aligned c.in_ok-run_ready.ensures.less c.in_ok-run_ready.ensures.small c.in_ok-run_ready.ensures.tool c.in_ok-run_ready.ensures.isa in
+    (λ s i l f. c.in_ok-run_ready.ensures.ran s i l f) c.in_ok-run_ready.ensures.fresh c.in_ok-run_ready.ensures.mapped c.in_ok-run_ready.ensures.shares c.in_ok-run_ready.ensures.regions c.in_ok-run_ready.ensures.segments c.in_ok-run_ready.ensures.counts c.in_ok-run_ready.ensures.aligned c.in_ok-run_ready.ensures.less c.in_ok-run_ready.ensures.small c.in_ok-run_ready.ensures.tool c.in_ok-run_ready.ensures.isa in
     let so : AfterBlock (scheme_of c.args.at.now c.args.limits) (process_of c.args.at.now (g.B.Book.ledger c.args.book.now)) (process c.run_ready.new.cpu c.run_ready.new.mem c.args.at.now.io c.run_ready.new.fuel c.run_ready.new.report (g.B.Book.ledger c.run_ready.new.book)) (ran.Asks) = subst (λ r. AfterBlock (scheme_of c.args.at.now c.args.limits) (process_of c.args.at.now (g.B.Book.ledger c.args.book.now)) (process c.run_ready.new.cpu c.run_ready.new.mem c.args.at.now.io c.run_ready.new.fuel c.run_ready.new.report (g.B.Book.ledger c.run_ready.new.book)) r) c.in-Asks.is after in
     let done : IfOk c.call.result (λ stop. AfterCall (scheme_of c.args.at.now c.args.limits) (process_of c.args.at.now (g.B.Book.ledger c.args.book.now)) (process c.call.new.cpu c.call.new.mem c.call.new.io c.run_ready.new.fuel c.run_ready.new.report (g.B.Book.ledger c.call.new.book)) stop) = if_ok c.call.result _ _ (λ stop d. after-call (scheme_of c.args.at.now c.args.limits) (process_of c.args.at.now (g.B.Book.ledger c.args.book.now)) c.run_ready.new.cpu c.call.new.cpu c.run_ready.new.mem c.call.new.mem c.args.at.now.io c.call.new.io c.run_ready.new.fuel c.run_ready.new.report (g.B.Book.ledger c.run_ready.new.book) (g.B.Book.ledger c.call.new.book) stop c.args.limits.some so (d c.run_ready.new.fuel c.run_ready.new.report)) c.call.ensures.done in
     if_ok c.call.result _ _ (λ stop d. d.asks) done

@@ -1,4 +1,4 @@
-use Rattle.std.proofs.Common.{◌≡◌, ◌-◌, Some, sym, ap, ◌∙◌, subst}
+use Rattle.std.proofs.Common.{◌≡◌, ◌-◌, Some, None, sym, ap, ◌∙◌, subst}
 use Rattle.std.proofs.lemmas.Option.{same_Some}
 use Rattle.std.proofs.lemmas.Result.{err_from_is_err_and}
 use Rattle.plain_machine.specs.Calls.{called}
@@ -9,6 +9,7 @@ use Rattle.block_ledger.specs.Traced.{after_call, direct, range_of}
 use Rattle.guest_proc.specs.Fresh.{block_in}
 use Rattle.guest_proc.specs.Process.{nothing, trace}
 use Rattle.guest_proc.proofs.Put.{found-at}
+use Rattle.guest_proc.proofs.Kept.{shares-left, shares-written}
 use Rattle.guest_proc.proofs.Blocks.{calls-block, leave-small, mapped-put, kept-stored, no_io, on_err, own-stands, ran-block}
 use Rattle.guest_proc.proofs.ready.run_ready.Goals as goal
 
@@ -129,3 +130,18 @@ returns-in-Asked-clause-leaves g c = λ io.
     let there : block_in c.args.report.now.tool c.args.max c.args.cpu.now.isa c.args.mem.now c.args.cpu.now.pc ≡ Some c.in-Some.block.now = c.requires.fresh c.args.cpu.now.pc c.in-Some.block.now seen in
     calls-block c.args.max c.in-Some.block.now c.args.fuel.now c.run_block.new.fuel c.args.cpu.now c.run_block.new.cpu c.args.mem.now c.run_block.new.mem io c.in_ok-left.left c.args.report.now (g.B.Book.ledger c.args.book.now) c.requires.some c.laws.ensures there seen
     (λ k i. c.in_ok-left.ensures.runs k i) c.in-Asked.is
+
+pub returns-in-Exit-clause-shares : goal.returns-in-Exit-clause-shares
+returns-in-Exit-clause-shares g c = shares-left c.direct-exit.result (g.B.Book.ledger c.args.book.now) (g.B.Book.ledger c.leave.new.self) c.leave.ensures
+
+pub returns-in-Fuel-clause-shares : goal.returns-in-Fuel-clause-shares
+returns-in-Fuel-clause-shares g c = shares-left (Some 0) (g.B.Book.ledger c.args.book.now) (g.B.Book.ledger c.leave-in-Fuel.new.self) c.leave-in-Fuel.ensures
+
+pub returns-in-Fault-clause-shares : goal.returns-in-Fault-clause-shares
+returns-in-Fault-clause-shares g c = shares-left None (g.B.Book.ledger c.args.book.now) (g.B.Book.ledger c.leave-in-Fault.new.self) c.leave-in-Fault.ensures
+
+pub returns-in-Asked-clause-shares : goal.returns-in-Asked-clause-shares
+returns-in-Asked-clause-shares g c = shares-left None (g.B.Book.ledger c.args.book.now) (g.B.Book.ledger c.leave-in-Asked.new.self) c.leave-in-Asked.ensures
+
+pub returns-in-Touched-clause-shares : goal.returns-in-Touched-clause-shares
+returns-in-Touched-clause-shares g c = shares-written c.in-Touched.span (g.B.Book.ledger c.args.book.now) (g.B.Book.ledger c.write.new.self) (c.write.ensures ∙ ap (written (range_of c.in-Touched.span)) c.leave-in-Touched.ensures)

@@ -14,5 +14,6 @@ invariant_of-self-2 g c =
       ready = λ e. subst (λ l. IsReady (scheme_of c.args.self.now.at c.args.self.now.limits) (process_of c.args.self.now.at l)) (sym c.in_ok-attach.ensures.ok)
           (ready-attached (scheme_of c.args.self.now.at c.args.self.now.limits) (process_of c.args.self.now.at (g.B.Book.ledger c.args.self.now.book)) c.segment_of.result unit c.args.self.now.limits.some
           (record { memory = c.code_at.ensures.memory; there = c.requires.there; fresh = fresh; same_isa = c.requires.isa; same_tool = c.requires.tool; same_max = c.requires.max })
+          c.requires.clear
           (c.args.self.now.ready c.if-self.false));
     }
