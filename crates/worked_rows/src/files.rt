@@ -1,15 +1,11 @@
 // Guests as files under a manifest, and the words of a command.
 ghost use Rattle.std.specs.Prelude.{◌<◌, ◌^◌, length};
 
-use outside::MemFiles;
 use std::alloc::{AllocError, Global};
 use std::test::Fail;
 
 /// The keys of the guest in most rows.
 pub const FRAME: &str = "max = 16\nfuel = 100000\n";
-
-/// ADDI x17, x0, 93; ECALL: the program of most rows.
-pub const EXITS: [u32; 2] = [0x05d0_0893, 0x0000_0073];
 
 // The manifest of one file, one module and one guest, up to the guest's further keys.
 const MANIFEST: &str =
@@ -45,30 +41,13 @@ pub fn elf_of_words(alloc: Global, flags: u8, words: &[u32]) -> Result<Vec<u8>, 
     Ok(elf(alloc, flags, &segment)?)
 }
 
-/// The bytes of these words.
-pub fn bytes_of(alloc: Global, words: &[u32]) -> Result<Vec<u8>, AllocError> {
+// The bytes of these words.
+fn bytes_of(alloc: Global, words: &[u32]) -> Result<Vec<u8>, AllocError> {
     let mut bytes = Vec::new(alloc);
     for word in words {
         bytes.extend_from_slice(&word.to_le_bytes())?;
     }
     Ok(bytes)
-}
-
-/// The bytes with another one at a place.
-pub fn changed(alloc: Global, bytes: &[u8], at: usize, byte: u8) -> Result<Vec<u8>, AllocError> {
-    let mut bytes = Vec::from_slice(alloc, bytes)?;
-    if let Some(place) = bytes.get_mut(at) {
-        *place = byte;
-    }
-    Ok(bytes)
-}
-
-/// The manifest m.toml of one file with these further keys of its guest, and p.elf with a segment of these words, with these
-/// flags.
-pub fn guest_files(alloc: Global, keys: &str, flags: u8, words: &[u32]) -> Result<MemFiles, Fail> {
-    let manifest = one_guest(alloc, keys)?;
-    let file = elf_of_words(alloc, flags, words)?;
-    Ok(two_files(alloc, manifest.as_bytes(), &file)?)
 }
 
 /// The words of a command.
@@ -85,12 +64,4 @@ pub fn one_guest(alloc: Global, keys: &str) -> Result<String, AllocError> {
     let mut text = String::from_str(alloc, MANIFEST)?;
     text.push_str(keys)?;
     Ok(text)
-}
-
-/// The manifest m.toml with this text, and p.elf with this content.
-pub fn two_files(alloc: Global, manifest: &[u8], file: &[u8]) -> Result<MemFiles, AllocError> {
-    let mut files = MemFiles::new(alloc);
-    files.put("m.toml", manifest)?;
-    files.put("p.elf", file)?;
-    Ok(files)
 }

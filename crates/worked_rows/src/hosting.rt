@@ -1,14 +1,14 @@
 // Runs through the top call, and what the plain interpreter prints of them.
-use crate::files::{elf_of_words, one_guest, two_files, words};
+use crate::files::{one_guest, words};
 use cc_base::Blob;
 use elf_map::Elf;
 use guest_loop::{Counts, GuestEnd, Ran};
-use host::{Ended, host};
+use host::host;
 use host_text::text_of;
 use manifest::{GuestRow, Manifest};
 use outside::{MemFiles, MemSink};
 use plain_run::{Module, Setup, interpret};
-use shelf_model::{MemShelf, Shelf};
+use shelf_model::MemShelf;
 use std::alloc::Global;
 use std::process::Abort;
 use std::test::Fail;
@@ -67,129 +67,35 @@ const NONE: Counts = Counts {
     linked: 0,
 };
 
-// What the run of m.toml with these options prints, on these files and over this shelf, and what is told of it.
-fn run_on<H: Shelf>(
-    alloc: Global,
-    files: &mut MemFiles,
-    shelf: &mut H,
-    options: &[&str],
-) -> Result<(Vec<u8>, Ended), Fail> {
-    let mut out = MemSink::new(alloc, 4000)?;
-    let mut words = words(alloc, &["run", "m.toml"])?;
-    for option in options {
-        words.push(String::from_str(alloc, *option)?)?;
-    }
-    let ended = host(alloc, &words, files, shelf, &mut out);
-    Ok((Vec::from_slice(alloc, out.bytes())?, ended))
-}
-
-/// The run of m.toml with these options, on these files and over this shelf, prints this text and gives this status. It answers
-/// what is told of it.
-pub fn prints_on<H: Shelf>(
-    rt: &impl Abort,
-    alloc: Global,
-    files: &mut MemFiles,
-    shelf: &mut H,
-    options: &[&str],
-    status: u8,
-    text: &[u8],
-) -> Result<Ended, Fail> {
-    let (printed, ended) = run_on(alloc, files, shelf, options)?;
-    assert_eq!(rt; printed.as_slice(), text);
-    assert_eq!(rt; ended.status, status);
-    Ok(ended)
-}
-
-/// The run of this file under these keys, with this content of the file `in`, prints this text and gives this status, and
-/// the interpreter gives the same text.
-pub fn prints_with(
-    rt: &impl Abort,
-    alloc: Global,
-    keys: &str,
-    file: &[u8],
-    input: &[u8],
-    status: u8,
-    text: &[u8],
-) -> Result<(), Fail> {
-    let manifest = one_guest(alloc, keys)?;
-    let mut files = two_files(alloc, manifest.as_bytes(), file)?;
+// What the run of m.toml prints on these files.
+fn printed(alloc: Global, manifest: &[u8], file: &[u8], input: &[u8]) -> Result<Vec<u8>, Fail> {
+    let mut files = MemFiles::new(alloc);
+    files.put("m.toml", manifest)?;
+    files.put("p.elf", file)?;
     files.put("in", input)?;
-    let mut shelf = MemShelf::new(alloc);
-    prints_on(rt, alloc, &mut files, &mut shelf, &[], status, text)?;
-    let plain = interpreted(alloc, manifest.as_bytes(), file, input)?;
-    assert_eq!(rt; plain.as_slice(), text);
-    Ok(())
+    let mut out = MemSink::new(alloc, 4000)?;
+    let words = words(alloc, &["run", "m.toml"])?;
+    host(
+        alloc,
+        &words,
+        &mut files,
+        &mut MemShelf::new(alloc),
+        &mut out,
+    );
+    Ok(Vec::from_slice(alloc, out.bytes())?)
 }
 
-/// The same for a segment of these words, with these flags, and no input.
-pub fn prints(
+/// The run of this file under these keys, where the file `in` is a byte 00, prints what the interpreter gives.
+pub fn agrees(
     rt: &impl Abort,
     alloc: Global,
-    keys: &str,
-    flags: u8,
-    words: &[u32],
-    status: u8,
-    text: &[u8],
-) -> Result<(), Fail> {
-    let file = elf_of_words(alloc, flags, words)?;
-    prints_with(rt, alloc, keys, &file, b"", status, text)
-}
-
-/// The run of this file under these keys and with no input prints what the interpreter gives, whatever it is.
-pub fn agrees(rt: &impl Abort, alloc: Global, keys: &str, file: &[u8]) -> Result<(), Fail> {
-    let manifest = one_guest(alloc, keys)?;
-    let mut files = two_files(alloc, manifest.as_bytes(), file)?;
-    let (printed, _) = run_on(alloc, &mut files, &mut MemShelf::new(alloc), &[])?;
-    let plain = interpreted(alloc, manifest.as_bytes(), file, b"")?;
-    assert_eq!(rt; printed, plain);
-    Ok(())
-}
-
-/// The run of this file under these keys, with no input and over this shelf, counts so many blocks begun, reused, built and
-/// linked, and prints with `--counts` just these behind what the interpreter gives. It answers what is told of it.
-pub fn counts_with<H: Shelf>(
-    rt: &impl Abort,
-    alloc: Global,
-    shelf: &mut H,
+    name: &str,
     keys: &str,
     file: &[u8],
-    counts: [u64; 4],
-) -> Result<Ended, Fail> {
+) -> Result<(), Fail> {
     let manifest = one_guest(alloc, keys)?;
-    let mut files = two_files(alloc, manifest.as_bytes(), file)?;
-    let (printed, ended) = run_on(alloc, &mut files, shelf, &["--counts"])?;
-    let [blocks, reused, built, linked] = counts;
-    let mut text = interpreted(alloc, manifest.as_bytes(), file, b"")?;
-    let line = format!(in alloc;
-        "counts blocks {blocks} reused {reused} built {built} linked {linked}\n"
-    )?;
-    text.extend_from_slice(line.as_bytes())?;
-    assert_eq!(rt; printed, text);
-    assert_eq!(rt; counts_of(&ended), counts);
-    Ok(ended)
-}
-
-// What was counted of the first guest.
-fn counts_of(ended: &Ended) -> [u64; 4] {
-    match ended.guests.first() {
-        Some(guest) => {
-            let counts = &guest.counts;
-            [counts.blocks, counts.reused, counts.built, counts.linked]
-        }
-        None => [0; 4],
-    }
-}
-
-/// The same for a segment of these words, with these flags.
-pub fn counts<H: Shelf>(
-    rt: &impl Abort,
-    alloc: Global,
-    shelf: &mut H,
-    keys: &str,
-    flags: u8,
-    words: &[u32],
-    counts: [u64; 4],
-) -> Result<Ended, Fail> {
-    let file = elf_of_words(alloc, flags, words)?;
-    counts_with(rt, alloc, shelf, keys, &file, counts)
+    let printed = printed(alloc, manifest.as_bytes(), file, b"\0")?;
+    let plain = interpreted(alloc, manifest.as_bytes(), file, b"\0")?;
+    assert_eq!(rt; printed, plain, "{name}");
+    Ok(())
 }

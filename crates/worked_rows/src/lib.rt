@@ -1,22 +1,12 @@
-//! Worked examples that cross the crates: whole runs through the top call, with the texts that the rules give, each
-//! compared with the plain interpreter, and with what they leave on their shelf.
+//! Guests that are alone, each run through the top call and by the plain interpreter, which is to print the same. What the
+//! runs print, count and publish stands in `rows`, under the same names.
 //!
-//! It stands on `host`, `plain_run` and `publish`, and nothing stands on it.
+//! It stands on `host` and `plain_run`, and nothing stands on it.
 #![tactic(auto)]
 
 #[cfg(test)]
-mod areas;
-#[cfg(test)]
-mod counts;
-#[cfg(test)]
 mod files;
 #[cfg(test)]
+mod guests;
+#[cfg(test)]
 mod hosting;
-#[cfg(test)]
-mod refusals;
-#[cfg(test)]
-mod runs;
-#[cfg(test)]
-mod several;
-#[cfg(test)]
-mod shelves;
