@@ -1,21 +1,18 @@
 // What publications make of areas.
 ghost use Rattle.std.specs.Prelude.{◌≡◌};
 
-use crate::shelves::{
-    NAME, NEW, OLD, ONE, TWO, bytes_of, changed, find, renew, unit_of, with_area,
-};
+use crate::shelves::{NAME, NEW, OLD, TWO, bytes_of, find, renew, unit_of, with_area};
 use publish::laws::publish_two;
 use publish::{LoadErr, Loaded, PubErr, Verdict, close_gate, fill, load, open_gate};
 use shelf_model::{Area, MemShelf, Shelf};
 use std::alloc::Global;
 use std::test::Fail;
-use unit_format::TextErr;
 use unit_set::Unit;
 
 #[test]
 fn first_publication(rt: HostRuntime) -> Result<(), Fail> {
     let alloc = rt.alloc();
-    let unit = unit_of(alloc, &ONE)?;
+    let unit = unit_of(alloc, &TWO)?;
     let mut shelf = MemShelf::new(alloc);
     let (a, b) = (Verdict::Empty, Verdict::Empty);
     assert_eq!(rt; find(alloc, &mut shelf)?.loaded(), Loaded::Nothing { a, b });
@@ -27,41 +24,6 @@ fn first_publication(rt: HostRuntime) -> Result<(), Fail> {
         find(alloc, &mut shelf)?.loaded(),
         Loaded::Held { area, seq }
     );
-    Ok(())
-}
-
-#[test]
-fn version_one_then_two(rt: HostRuntime) -> Result<(), Fail> {
-    let alloc = rt.alloc();
-    let unit = unit_of(alloc, &NEW)?;
-    let mut shelf = with_area(alloc, Area::A, &OLD)?;
-    assert_eq!(rt; renew(alloc, &mut shelf, &unit), Ok(Ok(3)));
-    assert_eq!(rt; bytes_of(&mut shelf, Area::A)?.as_slice(), OLD.as_slice());
-    assert_eq!(rt; bytes_of(&mut shelf, Area::B)?.as_slice(), NEW.as_slice());
-    Ok(())
-}
-
-#[test]
-fn short_area(rt: HostRuntime) -> Result<(), Fail> {
-    let alloc = rt.alloc();
-    let unit = unit_of(alloc, &ONE)?;
-    let mut shelf = with_area(alloc, Area::A, &ONE[..80])?;
-    let (a, b) = (Verdict::Text(TextErr::Short), Verdict::Empty);
-    assert_eq!(rt; find(alloc, &mut shelf)?.loaded(), Loaded::Nothing { a, b });
-    assert_eq!(rt; renew(alloc, &mut shelf, &unit), Ok(Ok(3)));
-    assert_eq!(rt; bytes_of(&mut shelf, Area::A)?.as_slice(), TWO.as_slice());
-    Ok(())
-}
-
-#[test]
-fn worn_out(rt: HostRuntime) -> Result<(), Fail> {
-    let alloc = rt.alloc();
-    let unit = unit_of(alloc, &NEW)?;
-    let file = changed(alloc, &OLD, 1, 8, 0xff)?;
-    let mut shelf = with_area(alloc, Area::A, &file)?;
-    assert_eq!(rt; renew(alloc, &mut shelf, &unit), Ok(Err(PubErr::WornOut)));
-    assert_eq!(rt; bytes_of(&mut shelf, Area::A)?.as_slice(), file.as_slice());
-    assert_eq!(rt; bytes_of(&mut shelf, Area::B)?.len(), 0);
     Ok(())
 }
 

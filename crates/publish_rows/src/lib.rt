@@ -1,4 +1,5 @@
-//! Worked examples of loading and publication, over shelves in memory. The areas' bytes are written out by the rules.
+//! Worked examples of loading and publication, over shelves in memory. The areas' bytes are written out by the rules. Those of
+//! whole runs stand in `rows`.
 //!
 //! It stands on `publish`, and nothing stands on it.
 #![tactic(auto)]
@@ -6,8 +7,4 @@
 #[cfg(test)]
 mod areas;
 #[cfg(test)]
-mod crashes;
-#[cfg(test)]
 mod shelves;
-#[cfg(test)]
-mod verdicts;

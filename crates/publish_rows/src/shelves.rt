@@ -1,23 +1,13 @@
 // Areas as the rules spell them, and the calls that the examples make.
-use publish::{Found, LoadErr, PubErr, Verdict, load, publish};
-use shelf_model::{Area, FuseShelf, MemShelf, Shelf};
+use publish::{Found, LoadErr, PubErr, load, publish};
+use shelf_model::{Area, MemShelf, Shelf};
 use std::alloc::Global;
 use std::test::Fail;
 use unit_set::{SlotName, Unit};
 
 pub const NAME: &[u8] = b"main.0.00000000.blocks.16";
 
-// The area file of the unit of `two-instructions`, with its one block, in version 1.
-pub const ONE: [u8; 81] = [
-    0xa5, 0x01, 0x00, 0x00, 0x00, 0x00, 0x00, 0x00, 0x00, 0x44, 0x00, 0x00, 0x00, 0x43, 0x43, 0x55,
-    0x31, 0x19, 0x6d, 0x61, 0x69, 0x6e, 0x2e, 0x30, 0x2e, 0x30, 0x30, 0x30, 0x30, 0x30, 0x30, 0x30,
-    0x30, 0x2e, 0x62, 0x6c, 0x6f, 0x63, 0x6b, 0x73, 0x2e, 0x31, 0x36, 0x00, 0x00, 0x01, 0x00, 0x08,
-    0x00, 0x00, 0x00, 0x93, 0x08, 0xd0, 0x05, 0x73, 0x00, 0x00, 0x00, 0x01, 0x00, 0x00, 0x00, 0x00,
-    0x00, 0x01, 0x00, 0x02, 0x01, 0x00, 0x00, 0x01, 0x02, 0x08, 0x00, 0x01, 0x00, 0xff, 0xff, 0xff,
-    0xff,
-];
-
-// The same in version 2.
+// The area file of the unit of `two-instructions`, with its one block, in version 2.
 pub const TWO: [u8; 84] = [
     0xa5, 0x01, 0x00, 0x00, 0x00, 0x00, 0x00, 0x00, 0x00, 0x47, 0x00, 0x00, 0x00, 0x43, 0x43, 0x55,
     0x32, 0x00, 0x19, 0x6d, 0x61, 0x69, 0x6e, 0x2e, 0x30, 0x2e, 0x30, 0x30, 0x30, 0x30, 0x30, 0x30,
@@ -88,31 +78,4 @@ pub fn renew<H: Shelf>(
 ) -> Result<Result<u8, PubErr>, LoadErr> {
     let mut standing = load(alloc, shelf, unit.slot())?.standing;
     Ok(publish(alloc, shelf, unit, &mut standing))
-}
-
-// The file with this byte at each place from `from` to `last`.
-pub fn changed(
-    alloc: Global,
-    file: &[u8],
-    from: usize,
-    last: usize,
-    byte: u8,
-) -> Result<Vec<u8>, Fail> {
-    let mut out = Vec::new(alloc);
-    for (i, b) in file.iter().enumerate() {
-        out.push(if from <= i && i <= last { byte } else { *b })?;
-    }
-    Ok(out)
-}
-
-// The verdict of bytes in area A.
-pub fn verdict(alloc: Global, bytes: &[u8]) -> Result<Verdict, Fail> {
-    let mut shelf = with_area(alloc, Area::A, bytes)?;
-    Ok(find(alloc, &mut shelf)?.a)
-}
-
-// The seq that is held behind a crash that leaves the first `whole` of the writes since a sync.
-pub fn seq_left(alloc: Global, shelf: &FuseShelf, whole: u32) -> Result<u64, Fail> {
-    let mut left = shelf.shelf().crash(whole)?;
-    Ok(find(alloc, &mut left)?.standing.seq)
 }
