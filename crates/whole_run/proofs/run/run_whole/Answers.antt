@@ -7,9 +7,10 @@ use Rattle.registry.specs.Opening.{slot_at}
 use Rattle.registry.specs.Registry.{slot_of}
 use Rattle.registry.specs.History.{History, state_of}
 use Rattle.publisher.specs.Serving.{AreDistinct, Publishes, added, seqs_of, standing_at}
-use Rattle.whole_run.specs.Job.{Job, job_of}
+use Rattle.whole_run.specs.Job.{Job, job_of, slots_in_job}
 use Rattle.whole_run.specs.Shelf.{seen_of}
 use Rattle.whole_run.specs.Whole.{IsWhole}
+use Rattle.whole_run.proofs.Changing.{changed}
 use Rattle.whole_run.proofs.Starting.{start_for}
 use Rattle.whole_run.proofs.Ending.{serves_fits, serves_same, unfinished, whole}
 use Rattle.whole_run.proofs.run.run_whole.Goals as goal
@@ -66,3 +67,21 @@ returns-clause-whole g c =
     (whole j before seen (shelf.moment c.begin.new.shelf) (shelf.images c.begin.new.shelf) c.in_ok-loads.field-0.loads.items c.in_ok-loads.field-0.standings.items c.in_ok-loads.field-0.registry start refl refl
     c.begin.ensures.told c.begin.ensures.counts c.serve.ensures.counts c.run_guests.new.registry c.finish.new.registry c.serve.new.registry c.in_ok-rans.rans.items c.in_ok-served.served.items c.in_ok-rans.ensures c.finish.ensures
     c.serve.ensures.grew publishes c.in_ok-served.ensures.faults c.in_ok-served.ensures.none_due c.in_ok-served.ensures.folder c.serve.ensures.others)
+
+pub returns-in_err-served-clause-areas : goal.returns-in_err-served-clause-areas
+returns-in_err-served-clause-areas g c =
+    let j : Job = job_of c.args.manifest.now c.args.elfs.items c.args.inputs.now in
+    let start = start_for c.args.manifest.now _ c.args.elfs.items c.args.inputs.now _ _ _ _ _ _ c.deref.ensures.value c.in_ok-loads.ensures.starts in
+    let same = serves_same j _ _ c.finish.new.registry _ c.in_ok-rans.ensures c.finish.ensures in
+    let told = g.H.Shelf.told in
+    changed (slots_in_job j) c.finish.new.registry.opening.slots (told c.args.shelf.now) (told c.begin.new.shelf) (told c.serve.new.shelf) c.begin.ensures.told
+    (ap (λ (h : History). h.opening.slots) same ∙ start.opens.slots) c.serve.ensures.only c.serve.ensures.strangers
+
+pub returns-clause-areas : goal.returns-clause-areas
+returns-clause-areas g c =
+    let j : Job = job_of c.args.manifest.now c.args.elfs.items c.args.inputs.now in
+    let start = start_for c.args.manifest.now _ c.args.elfs.items c.args.inputs.now _ _ _ _ _ _ c.deref.ensures.value c.in_ok-loads.ensures.starts in
+    let same = serves_same j _ _ c.finish.new.registry _ c.in_ok-rans.ensures c.finish.ensures in
+    let told = g.H.Shelf.told in
+    changed (slots_in_job j) c.finish.new.registry.opening.slots (told c.args.shelf.now) (told c.begin.new.shelf) (told c.serve.new.shelf) c.begin.ensures.told
+    (ap (λ (h : History). h.opening.slots) same ∙ start.opens.slots) c.serve.ensures.only c.serve.ensures.strangers
