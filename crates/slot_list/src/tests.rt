@@ -105,7 +105,7 @@ fn slots_stand_by_module_then_segment_then_first_use(rt: HostRuntime) -> Result<
     let manifest = manifest(alloc, TWO_MODULES)?;
     let elfs = vec![in alloc; file(alloc, &[0x1_0000, 0x2_0000])?, file(alloc, &[])?]?;
     let (modules, guests) = (manifest.modules(), manifest.guests());
-    modules_have_own_names();
+    modules_have_own_names(&manifest);
     let Ok(slots) = slots_of(alloc, modules, guests, &elfs) else {
         return Err("too many".into());
     };
